@@ -1,7 +1,7 @@
 ghost use mathlib.Core.Path.{_≡_};
 ghost use Prim.Native.Nat.{ℕ, _+_, _^_};
 ghost use Rattle.layout.specs.Numbers.{number-at, Field, Stored};
-ghost use Rattle.layout.specs.Sizes.{width, sizes, record-size};
+ghost use Rattle.layout.specs.Sizes.{width, sizes, record-size, entry-size};
 
 use super::edition::Edition;
 use super::edition::Edition11;
@@ -23,6 +23,18 @@ impl Sizes {
             Kind::Arcs => self.arc,
             Kind::Nodes => self.node,
             Kind::Polygons => self.polygon,
+        }
+    }
+
+    /// The size of an entry of the list of a record of a kind. A point has no list.
+    pub fn list_entry(self, kind: Kind) -> usize
+        ensures { λ r. ⌜ ((w : ℕ) → self ≡ sizes w → r ≡ entry-size kind w) ⌝ }
+    {
+        match kind {
+            Kind::Points => 0,
+            Kind::Arcs => self.vertex,
+            Kind::Nodes => self.number,
+            Kind::Polygons => self.entry,
         }
     }
 }
