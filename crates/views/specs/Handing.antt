@@ -14,3 +14,8 @@ use Rattle.views.specs.declared.part.Part.{Part}
 abbrev pub Handed : List ℕ → Result (ℕ × ℕ) Refusal → Result Part Refusal → Type 0
 Handed bs o (Ok p) = (o ≡ Ok (p .place, length (now (p .bytes)))) × (now (p .bytes) ≡ run bs (p .place) (length (now (p .bytes))))
 Handed bs o (Err e) = o ≡ Err e
+
+-- the place and the length of a part that was handed out, or the refusal
+abbrev pub extent-of : Result Part Refusal → Result (ℕ × ℕ) Refusal
+extent-of (Ok p) = Ok (p .place, length (now (p .bytes)))
+extent-of (Err e) = Err e

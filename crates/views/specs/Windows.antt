@@ -1,5 +1,6 @@
 -- The boxes of records, and which of them meet a window.
-use mathlib.Core.Bool.{cond}
+use mathlib.Core.Path.{_≡_}
+use mathlib.Core.Bool.{Bool, true, false, _&&_, cond}
 use mathlib.Core.List.{List}
 use Prim.Native.Nat.{ℕ, _<_, _≤_}
 use Rattle.std.specs.declared.option.Option.{Option}
@@ -12,7 +13,7 @@ use Rattle.media.specs.Runs.{run}
 use Rattle.layout.specs.declared.kind.Kind.{Kind}
 use Rattle.layout.specs.declared.edges.Edges.{Edges}
 use Rattle.layout.specs.declared.bounds.Bounds.{Bounds}
-use Rattle.layout.specs.Boxes.{fair-edges, edges-of, Share}
+use Rattle.layout.specs.Boxes.{fair-edges, edges-of, meets, Share}
 use Rattle.views.specs.declared.shape.Shape.{Shape}
 use Rattle.views.specs.Parts.{record-outcome}
 
@@ -30,10 +31,15 @@ abbrev pub told : Result Bounds Refusal → Result Edges Refusal
 told (Ok b) = Ok (edges-of b)
 told (Err e) = Err e
 
--- a record meets a window when it has a box and the two share a place
+-- a record meets a window when it has a box, finite and in order, and the two share a place
 abbrev pub Meeting : Result Edges Refusal → Edges → Type 0
-Meeting (Ok e) w = Share e w
+Meeting (Ok e) w = (fair-edges e ≡ true) × Share e w
 Meeting (Err r) w = ⊥
+
+-- the test for it
+abbrev pub met : Result Edges Refusal → Edges → Bool
+met (Ok e) w = fair-edges e && meets e w
+met (Err r) w = false
 
 -- The lowest record from k on, of so many, whose box meets the window; or none.
 abbrev pub Lowest : (ℕ → Result Edges Refusal) → ℕ → ℕ → Edges → Option ℕ → Type 0

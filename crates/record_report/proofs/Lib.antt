@@ -1,0 +1,3 @@
+pub mod Handings
+pub mod LineLaws
+pub mod FoundLaws

@@ -1,0 +1,63 @@
+-- The text of a report, byte for byte.
+use mathlib.Core.Bool.{Bool, true, false, cond}
+use mathlib.Core.List.{List, [], _∷_, _++_}
+use Prim.Native.Nat.{ℕ, zero, suc, _+_}
+use lib.Chars.{codes}
+use Rattle.std.specs.Written.{decimal}
+use Rattle.std.specs.declared.option.Option.{Option}
+use Rattle.std.specs.declared.option.Option.the-variants.{Some, None}
+use Rattle.std.specs.declared.result.Result.{Result}
+use Rattle.std.specs.declared.result.Result.the-variants.{Ok, Err}
+use Rattle.refusal.specs.declared.Refusal.{Refusal}
+use Rattle.refusal.specs.Numbers.{number}
+use Rattle.layout.specs.declared.edges.Edges.{Edges}
+use Rattle.layout.specs.declared.kind.Kind.{Kind}
+use Rattle.layout.specs.declared.kind.Kind.the-variants.{Points, Arcs, Nodes, Polygons}
+use Rattle.layout.specs.declared.version.Version.{Version}
+use Rattle.layout.specs.declared.version.Version.the-variants.{V11, V20}
+
+abbrev pub kind-text : Kind → List ℕ
+kind-text Points = codes "PNT"
+kind-text Arcs = codes "ARC"
+kind-text Nodes = codes "NOD"
+kind-text Polygons = codes "POL"
+
+abbrev pub version-text : Version → List ℕ
+version-text V11 = codes "1.1"
+version-text V20 = codes "2.0"
+
+-- a place and a length, or the refusal
+abbrev pub extent-text : Result (ℕ × ℕ) Refusal → List ℕ
+extent-text (Ok (place, n)) = decimal place ++ (codes " " ++ decimal n)
+extent-text (Err e) = codes "refused " ++ decimal (number e)
+
+-- a line: the number of a record, where the record lies, and where its list does
+abbrev pub line-of : ℕ → List ℕ → List ℕ → List ℕ
+line-of k place list = decimal k ++ (codes " record " ++ (place ++ (codes " list " ++ (list ++ codes "\n"))))
+
+-- the line of record k
+abbrev pub line : (ℕ → Result (ℕ × ℕ) Refusal) → (ℕ → Result (ℕ × ℕ) Refusal) → ℕ → List ℕ
+line places lists k = line-of k (extent-text (places k)) (extent-text (lists k))
+
+-- the lines of the first n records, of those that are wanted
+abbrev pub lines : (ℕ → Bool) → (ℕ → List ℕ) → ℕ → List ℕ
+lines wanted text zero = []
+lines wanted text (suc k) = lines wanted text k ++ cond (wanted k) (text k) []
+
+-- how many of the first n are wanted
+abbrev pub tally : (ℕ → Bool) → ℕ → ℕ
+tally wanted zero = 0
+tally wanted (suc k) = tally wanted k + cond (wanted k) 1 0
+
+abbrev pub head-text : Kind → Version → ℕ → List ℕ
+head-text kind version count = kind-text kind ++ (codes " " ++ (version-text version ++ (codes " records " ++ (decimal count ++ codes "\n"))))
+
+abbrev pub foot-text : ℕ → List ℕ
+foot-text n = codes "found " ++ (decimal n ++ codes "\n")
+
+-- the whole report on a table of so many records
+abbrev pub report-text : Kind → Version → ℕ → (ℕ → Bool) → (ℕ → List ℕ) → List ℕ
+report-text kind version count wanted text = head-text kind version count ++ (lines wanted text count ++ foot-text (tally wanted count))
+
+abbrev pub every : ℕ → Bool
+every k = true
