@@ -521,7 +521,6 @@ CASES = [
     "A lead11.arc --arcs 18446744073709551615",  # 01.1; --arcs says nothing here
     # Nodes.
     "N twins11.nod",  # whole, 1.1
-    "N twins11.nod --window -100 100 -100 100",  # a node stores no box
     "N twins20.nod --arcs 3",  # whole, 2.0
     # Polygons.
     "P twins11.pol --arcs 3",  # whole, 1.1
@@ -559,7 +558,7 @@ CASES = [
     "A twins11.arc --window 1 0 0 1",  # out of order in x
     "P twins20.pol --arcs 3 --window 0 1 1 0",  # out of order in y
     "T three11.pnt --window 0 1 nan 1",
-    "N twins11.nod --window -inf 1 0 1",
+    "A twins11.arc --window -inf 1 0 1",
     # Lists at the end, past it and near the top of the numbers.
     "A lists20.arc --window 1 2 1 2",  # in the window, whatever their lists
     "N lists11.nod",
@@ -659,9 +658,7 @@ def read_list(letter, edition, data, place):
 
 
 def read_box(letter, data, place):
-    """Stored box of a record, or None when its kind stores no box."""
-    if letter == "N":
-        return None
+    """Box of a record: a point is its own; a node has none, and is never asked for one."""
     if letter == "T":
         x, y = read_double(data, place), read_double(data, place + 8)
         return [x, x, y, y]
@@ -691,7 +688,7 @@ def printed(words, files):
     for number, (place, length) in enumerate(records):
         if window is not None:
             box = read_box(letter, data, place)
-            if box is None or not is_box(box) or not share_a_place(box, window):
+            if not is_box(box) or not share_a_place(box, window):
                 continue
         found += 1
         at, run = read_list(letter, edition, data, place)

@@ -1,3 +1,6 @@
-// The report on the records of a file: its words, its lines, and the whole text.
+// The report on the records of a file: its lines, the whole text, and the answer to a request.
+pub mod answer;
+pub mod answers;
 pub mod lines;
 pub mod reports;
+pub mod request;
