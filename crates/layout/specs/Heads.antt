@@ -41,13 +41,14 @@ kind-agreed (Some wanted) (Some k) = cond (same-kind wanted k) (Some k) None
 
 -- the header itself
 abbrev pub header-at : List ℕ → Kind → Version → Header
-header-at bs k v = record
-    { kind = k
-    ; version = v
-    ; flags = record { byte = getD bs 7 0 }
-    ; edges = edges-at bs 8
-    ; count = number-at (width v) bs 40
-    ; reserved = getD bs (40 + width v) 0 }
+header-at bs k v = record {
+  kind = k;
+  version = v;
+  flags = record { byte = getD bs 7 0 };
+  edges = edges-at bs 8;
+  count = number-at (width v) bs 40;
+  reserved = getD bs (40 + width v) 0;
+}
 
 abbrev by-version : List ℕ → Kind → Option Version → Result Header Refusal
 by-version bs k None = Err OtherVersion

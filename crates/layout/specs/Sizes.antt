@@ -31,13 +31,14 @@ entry-size Nodes w = w
 entry-size Polygons w = 1 + w
 
 abbrev pub sizes : ℕ → Sizes
-sizes w = record
-    { number = w
-    ; header = header-size w
-    ; sides = sides-size w
-    ; point = record-size Points w
-    ; arc = record-size Arcs w
-    ; node = record-size Nodes w
-    ; polygon = record-size Polygons w
-    ; vertex = entry-size Arcs w
-    ; entry = entry-size Polygons w }
+sizes w = record {
+  number = w;
+  header = header-size w;
+  sides = sides-size w;
+  point = record-size Points w;
+  arc = record-size Arcs w;
+  node = record-size Nodes w;
+  polygon = record-size Polygons w;
+  vertex = entry-size Arcs w;
+  entry = entry-size Polygons w;
+}

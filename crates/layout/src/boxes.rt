@@ -2,7 +2,6 @@ ghost use mathlib.Core.Path.{_≡_};
 ghost use mathlib.Core.Bool.{true};
 ghost use Rattle.layout.specs.Numbers.{Field};
 ghost use Rattle.layout.specs.Boxes.{edges-at, point-at, edges-of, Made, meets, Share};
-
 use super::bounds::Bounds;
 use super::doubles::read_double;
 use super::edges::Edges;
@@ -21,7 +20,12 @@ impl Edges {
         let maxx = read_double(bytes, at + 8)?;
         let miny = read_double(bytes, at + 16)?;
         let maxy = read_double(bytes, at + 24)?;
-        Ok(Edges { minx, maxx, miny, maxy })
+        Ok(Edges {
+            minx,
+            maxx,
+            miny,
+            maxy,
+        })
     }
 
     /// The point that stands at a place, x and y, as a box. 1 when it passes the end.
@@ -34,7 +38,12 @@ impl Edges {
         }
         let x = read_double(bytes, at)?;
         let y = read_double(bytes, at + 8)?;
-        Ok(Edges { minx: x, maxx: x, miny: y, maxy: y })
+        Ok(Edges {
+            minx: x,
+            maxx: x,
+            miny: y,
+            maxy: y,
+        })
     }
 }
 
@@ -43,9 +52,25 @@ impl Bounds {
     pub fn new(edges: Edges) -> Result<Bounds, Refusal>
         ensures { λ r. ⌜ Made edges r ⌝ }
     {
-        let Edges { minx, maxx, miny, maxy } = edges;
-        if minx.is_finite() && maxx.is_finite() && miny.is_finite() && maxy.is_finite() && minx <= maxx && miny <= maxy {
-            return Ok(Bounds { minx, maxx, miny, maxy });
+        let Edges {
+            minx,
+            maxx,
+            miny,
+            maxy,
+        } = edges;
+        if minx.is_finite()
+            && maxx.is_finite()
+            && miny.is_finite()
+            && maxy.is_finite()
+            && minx <= maxx
+            && miny <= maxy
+        {
+            return Ok(Bounds {
+                minx,
+                maxx,
+                miny,
+                maxy,
+            });
         }
         Err(Refusal::UnfitBox)
     }
@@ -54,13 +79,21 @@ impl Bounds {
     pub fn edges(&self) -> Edges
         ensures { λ r. ⌜ r ≡ edges-of (now (self .entry)) ⌝ }
     {
-        Edges { minx: self.minx, maxx: self.maxx, miny: self.miny, maxy: self.maxy }
+        Edges {
+            minx: self.minx,
+            maxx: self.maxx,
+            miny: self.miny,
+            maxy: self.maxy,
+        }
     }
 
     fn overlaps(&self, other: &Bounds) -> bool
         ensures { λ r. ⌜ r ≡ meets (edges-of (now (self .entry))) (edges-of (now (other .entry))) ⌝ }
     {
-        self.minx <= other.maxx && other.minx <= self.maxx && self.miny <= other.maxy && other.miny <= self.maxy
+        self.minx <= other.maxx
+            && other.minx <= self.maxx
+            && self.miny <= other.maxy
+            && other.miny <= self.maxy
     }
 
     /// Whether the two share a place, edges counted.

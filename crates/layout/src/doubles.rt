@@ -2,7 +2,6 @@ ghost use mathlib.Core.Path.{_≡_};
 ghost use Prim.Native.Nat.{ℕ, _+_};
 ghost use Rattle.layout.specs.Numbers.{Field};
 ghost use Rattle.layout.specs.Doubles.{double-at, StoredDouble};
-
 use refusal::Refusal;
 use std::num::f64_from_bits_with_nan;
 

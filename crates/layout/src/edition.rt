@@ -2,21 +2,29 @@ ghost use mathlib.Core.Path.{_≡_};
 ghost use Prim.Native.Nat.{ℕ, _+_, _^_, _≤_};
 ghost use Rattle.layout.specs.Numbers.{number-at, Field, Stored};
 ghost use Rattle.layout.specs.Sizes.{sizes};
-
 use super::sizes::Sizes;
 use refusal::Refusal;
 
 /// An edition of the format: its sizes, and its own way to store a number.
 pub trait Edition {
     const NUMBER_BYTES: usize;
+
     const HEADER_BYTES: usize;
+
     const SIDES_BYTES: usize;
+
     const POINT_BYTES: usize;
+
     const ARC_BYTES: usize;
+
     const NODE_BYTES: usize;
+
     const POLYGON_BYTES: usize;
+
     const VERTEX_BYTES: usize;
+
     const ENTRY_BYTES: usize;
+
     const LARGEST_NUMBER: u64;
 
     // how many bytes a number has
@@ -44,14 +52,23 @@ pub struct Edition11;
 
 pub impl Edition for Edition11 as Edition11Edition {
     const NUMBER_BYTES: usize = 4;
+
     const HEADER_BYTES: usize = 48;
+
     const SIDES_BYTES: usize = 8;
+
     const POINT_BYTES: usize = 16;
+
     const ARC_BYTES: usize = 56;
+
     const NODE_BYTES: usize = 8;
+
     const POLYGON_BYTES: usize = 64;
+
     const VERTEX_BYTES: usize = 16;
+
     const ENTRY_BYTES: usize = 5;
+
     const LARGEST_NUMBER: u64 = 0xffff_ffff;
 
     ghost width = { 4 };
@@ -103,14 +120,23 @@ pub struct Edition20;
 
 pub impl Edition for Edition20 as Edition20Edition {
     const NUMBER_BYTES: usize = 8;
+
     const HEADER_BYTES: usize = 56;
+
     const SIDES_BYTES: usize = 16;
+
     const POINT_BYTES: usize = 16;
+
     const ARC_BYTES: usize = 72;
+
     const NODE_BYTES: usize = 12;
+
     const POLYGON_BYTES: usize = 80;
+
     const VERTEX_BYTES: usize = 16;
+
     const ENTRY_BYTES: usize = 9;
+
     const LARGEST_NUMBER: u64 = 0xffff_ffff_ffff_ffff;
 
     ghost width = { 8 };

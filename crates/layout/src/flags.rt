@@ -9,7 +9,9 @@ pub struct Flags {
 
 impl Flags {
     const VERIFIED: u8 = 0x01;
+
     const THREE_DIMENSIONAL: u8 = 0x10;
+
     const EXPLICIT: u8 = 0x20;
 
     /// Bit 0: the topology has been verified.
@@ -42,7 +44,9 @@ pub struct Vfg {
 
 impl Vfg {
     const EXTERNAL: u8 = 0x01;
+
     const RING_END: u8 = 0x02;
+
     const TURNED: u8 = 0x04;
 
     /// The byte with these three bits, and no other.

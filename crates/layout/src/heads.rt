@@ -4,7 +4,6 @@ ghost use Prim.Native.Nat.{ℕ, _≤_};
 ghost use lib.ListN.{length};
 ghost use Rattle.layout.specs.Sizes.{header-size, width};
 ghost use Rattle.std.specs.declared.result.Result.the-variants.{Ok};
-
 use super::edges::Edges;
 use super::flags::Flags;
 use super::header::Header;
@@ -39,7 +38,14 @@ fn fields(file: &[u8], kind: Kind, version: Version) -> Result<Header, Refusal>
     let edges = Edges::read(file, 8)?;
     let count = version.number(file, 40)?;
     let reserved = file[40 + version.sizes().number];
-    Ok(Header { kind, version, flags: Flags { byte: file[7] }, edges, count, reserved })
+    Ok(Header {
+        kind,
+        version,
+        flags: Flags { byte: file[7] },
+        edges,
+        count,
+        reserved,
+    })
 }
 
 impl Header {

@@ -1,4 +1,3 @@
-
 /// The four kinds of file.
 #[derive(Clone, Copy)]
 pub enum Kind {

@@ -1,6 +1,5 @@
 ghost use mathlib.Core.Path.{_≡_};
 ghost use Rattle.layout.specs.Texts.{kind-of, kind-by-letter, version-of, same-kind};
-
 use super::kind::Kind;
 use super::version::Version;
 

@@ -2,7 +2,6 @@ ghost use mathlib.Core.Path.{_≡_};
 ghost use Prim.Native.Nat.{ℕ, _+_, _^_};
 ghost use Rattle.layout.specs.Numbers.{number-at, Field, Stored};
 ghost use Rattle.layout.specs.Sizes.{width, sizes, record-size, entry-size};
-
 use super::edition::Edition;
 use super::edition::Edition11;
 use super::edition::Edition11Edition;

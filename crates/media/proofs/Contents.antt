@@ -31,13 +31,13 @@ pub byte-other : (pages : List (List ℕ)) (ps : List ℕ) (n a k v : ℕ) → B
 byte-other pages ps n a k v below apart m h l ne =
     let p = getD ps (a / 512) 0 in
     ⊎-elim {C = byte-at (stored pages p (a % 512) v) ps k ≡ byte-at pages ps k}
-      (λ (e : getD ps (k / 512) 0 ≡ p).
-          let one : k / 512 ≡ a / 512 = apart (k / 512) (a / 512) (omega arith, omega arith, e) in
-          let other : k % 512 ≢ a % 512 = λ q. ne (omega arith) in
-          let b = below (a / 512) (omega arith) in
-          rw (e, getD-set-same pages p (set (getD pages p []) (a % 512) v) [] (omega arith)) (getD-set-other (getD pages p []) (a % 512) (k % 512) v 0 other))
-      (λ (d : getD ps (k / 512) 0 ≢ p). ap (λ page. getD page (k % 512) 0) (getD-set-other pages p (getD ps (k / 512) 0) (set (getD pages p []) (a % 512) v) [] d))
-      (cases-eq (getD ps (k / 512) 0) p)
+    (λ (e : getD ps (k / 512) 0 ≡ p).
+    let one : k / 512 ≡ a / 512 = apart (k / 512) (a / 512) (omega arith, omega arith, e) in
+    let other : k % 512 ≢ a % 512 = λ q. ne (omega arith) in
+    let b = below (a / 512) (omega arith) in
+    rw (e, getD-set-same pages p (set (getD pages p []) (a % 512) v) [] (omega arith)) (getD-set-other (getD pages p []) (a % 512) (k % 512) v 0 other))
+    (λ (d : getD ps (k / 512) 0 ≢ p). ap (λ page. getD page (k % 512) 0) (getD-set-other pages p (getD ps (k / 512) 0) (set (getD pages p []) (a % 512) v) [] d))
+    (cases-eq (getD ps (k / 512) 0) p)
 
 -- a store at the place of byte a changes that byte and no other
 pub content-stored : (pages : List (List ℕ)) (ps : List ℕ) (n a v : ℕ) → Below ps n → Apart ps n → length pages ≡ 128 → length (getD pages (getD ps (a / 512) 0) []) ≡ 512 → a < 512 * n
@@ -47,11 +47,11 @@ content-stored pages ps n a v below apart m w h =
     let after = stored pages p (a % 512) v in
     ext-getD 0 _ _ (length-content after ps n ∙ sym (length-set (content pages ps n) a v ∙ length-content pages ps n))
     (λ k l. let l′ : k < 512 * n = omega (arith, length-content after ps n) in
-        getD-content after ps n k l′ ∙
-        ⊎-elim {C = byte-at after ps k ≡ getD (set (content pages ps n) a v) k 0}
-          (λ (e : k ≡ a). rw e (byte-same pages ps a v (omega (arith, below (a / 512) (omega arith))) w ∙ sym (getD-set-same (content pages ps n) a v 0 (omega (arith, length-content pages ps n)))))
-          (λ (ne : k ≢ a). byte-other pages ps n a k v below apart m h l′ ne ∙ sym (getD-set-other (content pages ps n) a k v 0 ne ∙ getD-content pages ps n k l′))
-          (cases-eq k a))
+    getD-content after ps n k l′ ∙
+    ⊎-elim {C = byte-at after ps k ≡ getD (set (content pages ps n) a v) k 0}
+    (λ (e : k ≡ a). rw e (byte-same pages ps a v (omega (arith, below (a / 512) (omega arith))) w ∙ sym (getD-set-same (content pages ps n) a v 0 (omega (arith, length-content pages ps n)))))
+    (λ (ne : k ≢ a). byte-other pages ps n a k v below apart m h l′ ne ∙ sym (getD-set-other (content pages ps n) a k v 0 ne ∙ getD-content pages ps n k l′))
+    (cases-eq k a))
 
 -- the turn of a loop that stores byte after byte
 pub store-more : (pages : List (List ℕ)) (was ps ws : List ℕ) (n at i : ℕ) → Below ps n → Apart ps n → length pages ≡ 128 → length (getD pages (getD ps ((at + i) / 512) 0) []) ≡ 512 → length was ≡ 512 * n → at + length ws ≤ 512 * n → i < length ws

@@ -24,27 +24,27 @@ at-most (suc m) zero f low one = absurd (omega (arith, low 0 (omega arith)))
 at-most (suc m) (suc n) f low one =
     let g = moved f n (f m) in
     let below : (k : ℕ) → k < m → g k < n = λ k l.
-        elim (cases-eq (f k) n)
-        [ inl e ↦
-            elim (cases-eq (f m) n)
-            [ inl d ↦ absurd (omega (arith, one k m (omega arith) (omega arith) (e ∙ sym d)))
+    elim (cases-eq (f k) n) [
+      | inl e ↦
+          elim (cases-eq (f m) n) [
+            | inl d ↦ absurd (omega (arith, one k m (omega arith) (omega arith) (e ∙ sym d)))
             | inr d ↦ omega (arith, moved-there f n (f m) k e, low m (omega arith))
-            ]
-        | inr d ↦ omega (arith, moved-else f n (f m) k d, low k (omega arith))
-        ]
+          ]
+      | inr d ↦ omega (arith, moved-else f n (f m) k d, low k (omega arith))
+    ]
     in
     let apart : (a b : ℕ) → a < m → b < m → g a ≡ g b → a ≡ b = λ a b la lb e.
-        elim (cases-eq (f a) n)
-        [ inl ea ↦
-            elim (cases-eq (f b) n)
-            [ inl eb ↦ one a b (omega arith) (omega arith) (ea ∙ sym eb)
+    elim (cases-eq (f a) n) [
+      | inl ea ↦
+          elim (cases-eq (f b) n) [
+            | inl eb ↦ one a b (omega arith) (omega arith) (ea ∙ sym eb)
             | inr nb ↦ absurd (omega (arith, one m b (omega arith) (omega arith) (sym (moved-there f n (f m) a ea) ∙ (e ∙ moved-else f n (f m) b nb))))
-            ]
-        | inr na ↦
-            elim (cases-eq (f b) n)
-            [ inl eb ↦ absurd (omega (arith, one a m (omega arith) (omega arith) (sym (moved-else f n (f m) a na) ∙ (e ∙ moved-there f n (f m) b eb))))
+          ]
+      | inr na ↦
+          elim (cases-eq (f b) n) [
+            | inl eb ↦ absurd (omega (arith, one a m (omega arith) (omega arith) (sym (moved-else f n (f m) a na) ∙ (e ∙ moved-there f n (f m) b eb))))
             | inr nb ↦ one a b (omega arith) (omega arith) (sym (moved-else f n (f m) a na) ∙ (e ∙ moved-else f n (f m) b nb))
-            ]
-        ]
+          ]
+    ]
     in
     omega (arith, at-most m n g below apart)

@@ -1,7 +1,6 @@
 ghost use mathlib.Core.Path.{_≡_};
 ghost use mathlib.Core.List.{[], _∷_};
 ghost use denote.Ref.{now, name};
-
 use super::medium::Medium;
 use refusal::Refusal;
 

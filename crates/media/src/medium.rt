@@ -5,7 +5,6 @@ ghost use Prim.Native.Nat.{ℕ};
 ghost use denote.Ref.{now};
 ghost use lib.ListN.{length};
 ghost use Rattle.media.specs.Posts.{Read, Written};
-
 use refusal::Refusal;
 
 /// A fixed number of bytes. What a medium means is the list of them, `bytes`.

@@ -3,7 +3,6 @@ ghost use Prim.Native.Nat.{ℕ, _*_, _/_, _<_, _≤_};
 ghost use lib.ListN.{getD, take};
 ghost use Rattle.std.specs.Results.{Cases};
 ghost use Rattle.media.specs.Paging.{Below, Apart, Unfit};
-
 use refusal::Refusal;
 
 /// The numbers of some of the 128 pages, none above 127 and none twice.
@@ -35,7 +34,10 @@ impl PageList {
             }
             list[j] = numbers[j];
         }
-        Ok(PageList { list, len: numbers.len() })
+        Ok(PageList {
+            list,
+            len: numbers.len(),
+        })
     }
 
     /// How many pages are listed.

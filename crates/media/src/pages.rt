@@ -5,7 +5,6 @@ ghost use denote.Ref.{now, name};
 ghost use lib.ListN.{length, getD};
 ghost use Rattle.media.specs.Runs.{run, overwrite};
 ghost use Rattle.media.specs.Paging.{content, stored};
-
 use super::medium::Medium;
 use super::page_list::PageList;
 use refusal::Refusal;

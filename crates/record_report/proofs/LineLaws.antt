@@ -8,39 +8,22 @@ use native.Mathlib.Omega.{arith}
 use native.Mathlib.Numerals.{add-one}
 use Rattle.std.proofs.shelf.Lists.{append-assoc, append-nil}
 use Rattle.std.proofs.shelf.Tests.{cases-eq, cond-true, cond-false}
-use Rattle.record_report.specs.Texts.{lines, tally, every}
+use Rattle.record_report.specs.Texts.{lines}
 
 -- the lines up to a record that is wanted
 pub lines-more : (wanted : ℕ → Bool) (text : ℕ → List ℕ) (start : List ℕ) (f : ℕ) → wanted f ≡ true → (start ++ lines wanted text f) ++ text f ≡ start ++ lines wanted text (f + 1)
 lines-more wanted text start f h = rw add-one (append-assoc start (lines wanted text f) (text f) ∙ ap (λ t. start ++ (lines wanted text f ++ t)) (sym (cond-true (wanted f) (text f) [] h)))
 
-pub tally-more : (wanted : ℕ → Bool) (f : ℕ) → wanted f ≡ true → tally wanted f + 1 ≡ tally wanted (f + 1)
-tally-more wanted f h = ap (λ t. tally wanted f + t) (sym (cond-true (wanted f) 1 0 h)) ∙ sym (ap (tally wanted) (add-one f))
-
 -- where none is wanted from k on, nothing is added
 pub lines-none : (wanted : ℕ → Bool) (text : ℕ → List ℕ) (k f : ℕ) → k ≤ f → ((i : ℕ) → i < f → k ≤ i → wanted i ≡ false) → lines wanted text f ≡ lines wanted text k
 lines-none wanted text k zero h none = let e : k ≡ 0 = omega arith in rw e
 lines-none wanted text k (suc f) h none =
-    elim (cases-eq k (suc f))
-    [ inl e ↦ rw e
-    | inr ne ↦
-        ap (λ t. lines wanted text f ++ t) (cond-false (wanted f) (text f) [] (none f (omega arith) (omega arith)))
-        ∙ append-nil (lines wanted text f) ∙ lines-none wanted text k f (omega arith) (λ i l m. none i (omega arith) m)
+    elim (cases-eq k (suc f)) [
+      | inl e ↦ rw e
+      | inr ne ↦
+          ap (λ t. lines wanted text f ++ t) (cond-false (wanted f) (text f) [] (none f (omega arith) (omega arith)))
+          ∙ append-nil (lines wanted text f) ∙ lines-none wanted text k f (omega arith) (λ i l m. none i (omega arith) m)
     ]
-
-pub tally-none : (wanted : ℕ → Bool) (k f : ℕ) → k ≤ f → ((i : ℕ) → i < f → k ≤ i → wanted i ≡ false) → tally wanted f ≡ tally wanted k
-tally-none wanted k zero h none = let e : k ≡ 0 = omega arith in rw e
-tally-none wanted k (suc f) h none =
-    elim (cases-eq k (suc f))
-    [ inl e ↦ rw e
-    | inr ne ↦
-        ap (λ t. tally wanted f + t) (cond-false (wanted f) 1 0 (none f (omega arith) (omega arith)))
-        ∙ omega (arith, tally-none wanted k f (omega arith) (λ i l m. none i (omega arith) m))
-    ]
-
-pub tally-every : (n : ℕ) → tally every n ≡ n
-tally-every zero = refl
-tally-every (suc n) = omega (arith, tally-every n)
 
 -- a head, then lines, then a foot
 pub joined : (l : List ℕ) {s t u v h f : List ℕ} → s ≡ h → t ≡ s ++ l → v ≡ f → u ≡ t ++ v → u ≡ h ++ (l ++ f)

@@ -10,11 +10,11 @@ use Rattle.std.specs.declared.result.Result.{Result}
 use Rattle.std.specs.declared.result.Result.the-variants.{Ok, Err}
 use Rattle.refusal.specs.declared.Refusal.{Refusal}
 use Rattle.refusal.specs.Numbers.{number}
-use Rattle.layout.specs.declared.edges.Edges.{Edges}
 use Rattle.layout.specs.declared.kind.Kind.{Kind}
 use Rattle.layout.specs.declared.kind.Kind.the-variants.{Points, Arcs, Nodes, Polygons}
 use Rattle.layout.specs.declared.version.Version.{Version}
 use Rattle.layout.specs.declared.version.Version.the-variants.{V11, V20}
+use Rattle.views.specs.Windows.{tally}
 
 abbrev pub kind-text : Kind → List ℕ
 kind-text Points = codes "PNT"
@@ -43,11 +43,6 @@ line places lists k = line-of k (extent-text (places k)) (extent-text (lists k))
 abbrev pub lines : (ℕ → Bool) → (ℕ → List ℕ) → ℕ → List ℕ
 lines wanted text zero = []
 lines wanted text (suc k) = lines wanted text k ++ cond (wanted k) (text k) []
-
--- how many of the first n are wanted
-abbrev pub tally : (ℕ → Bool) → ℕ → ℕ
-tally wanted zero = 0
-tally wanted (suc k) = tally wanted k + cond (wanted k) 1 0
 
 abbrev pub head-text : Kind → Version → ℕ → List ℕ
 head-text kind version count = kind-text kind ++ (codes " " ++ (version-text version ++ (codes " records " ++ (decimal count ++ codes "\n"))))

@@ -7,7 +7,6 @@ ghost use Rattle.views.specs.Viewed.{kind-seen, file-seen, shape-seen};
 ghost use Rattle.std.specs.declared.result.Result.the-variants.{Ok};
 ghost use Rattle.std.specs.declared.option.Option.the-variants.{Some};
 ghost use Rattle.record_report.specs.Texts.{every};
-
 use super::answer::Answer;
 use super::reports::report_all;
 use super::reports::report_found;
@@ -39,7 +38,11 @@ fn on_all<K: RecordKind>(heap: Global, table: &Records<'_, K>) -> Result<String,
 }
 
 // The report on the records that meet a window.
-fn on_found<K: BoxedKind>(heap: Global, table: &Records<'_, K>, window: &Bounds) -> Result<String, AllocError>
+fn on_found<K: BoxedKind>(
+    heap: Global,
+    table: &Records<'_, K>,
+    window: &Bounds,
+) -> Result<String, AllocError>
     ensures { λ r. ⌜ made r (λ s. string-bytes s ≡ text-on (K·RecordKind .kind) (now (now (table .entry) .file)) (now (table .entry) .shape) (meeting (K·RecordKind .kind) (K·BoxedKind .edges) (now (now (table .entry) .file)) (now (table .entry) .shape) (edges-of (now (window .entry))))) ⌝ }
 {
     report_found(heap, K::kind(), table.version(), &*table, window)
@@ -72,7 +75,13 @@ fn answer_found(heap: Global, view: &View<'_>, window: &Bounds) -> Result<Answer
 }
 
 /// The answer to a request for the records of a file, asked for by letter, with the arc count for a POL, and by window if one is given.
-pub fn answer(heap: Global, letter: char, file: &[u8], arcs: u64, window: Option<Edges>) -> Result<Answer, AllocError>
+pub fn answer(
+    heap: Global,
+    letter: char,
+    file: &[u8],
+    arcs: u64,
+    window: Option<Edges>,
+) -> Result<Answer, AllocError>
     ensures { λ r. ⌜ made r (λ a. said a ≡ answer-outcome (now (file .entry)) letter arcs window) ⌝ }
 {
     let view = match View::new(letter, file, arcs) {

@@ -7,7 +7,6 @@ ghost use Rattle.std.specs.Of.String.{string-bytes};
 ghost use Rattle.std.specs.Vec.{made};
 ghost use Rattle.views.specs.Handing.{extent-of};
 ghost use Rattle.record_report.specs.Texts.{kind-text, version-text, extent-text, line-of, line, head-text, foot-text};
-
 use layout::kind::Kind;
 use layout::version::Version;
 use refusal::Refusal;
@@ -49,7 +48,10 @@ fn extent(part: Result<Part<'_>, Refusal>) -> Result<(usize, usize), Refusal>
 }
 
 /// A place and a length, or a refusal, as text.
-pub fn extent_text(heap: Global, extent: Result<(usize, usize), Refusal>) -> Result<String, AllocError>
+pub fn extent_text(
+    heap: Global,
+    extent: Result<(usize, usize), Refusal>,
+) -> Result<String, AllocError>
     ensures { λ r. ⌜ made r (λ s. string-bytes s ≡ extent-text extent) ⌝ }
 {
     match extent {
@@ -78,7 +80,12 @@ pub fn record_line<T: RecordTable>(heap: Global, table: &T, k: usize) -> Result<
 }
 
 /// The first line: kind, edition and how many records there are.
-pub fn head_line(heap: Global, kind: Kind, version: Version, count: usize) -> Result<String, AllocError>
+pub fn head_line(
+    heap: Global,
+    kind: Kind,
+    version: Version,
+    count: usize,
+) -> Result<String, AllocError>
     ensures { λ r. ⌜ made r (λ s. string-bytes s ≡ head-text kind version count) ⌝ }
 {
     let name = kind_name(kind);

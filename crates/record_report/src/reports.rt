@@ -5,9 +5,8 @@ ghost use Prim.Native.Nat.{ℕ, _+_, _≤_};
 ghost use Rattle.std.specs.Of.String.{string-bytes};
 ghost use Rattle.std.specs.Vec.{made};
 ghost use Rattle.layout.specs.Boxes.{edges-of};
-ghost use Rattle.views.specs.Windows.{met};
-ghost use Rattle.record_report.specs.Texts.{line, lines, tally, head-text, foot-text, report-text, every};
-
+ghost use Rattle.views.specs.Windows.{met, tally};
+ghost use Rattle.record_report.specs.Texts.{line, lines, head-text, foot-text, report-text, every};
 use super::lines::foot_line;
 use super::lines::head_line;
 use super::lines::record_line;
@@ -28,7 +27,12 @@ fn push_text(text: &mut String, more: &String) -> Result<(), AllocError>
 }
 
 // Adds the line of record k to a text.
-fn push_line<T: RecordTable>(heap: Global, table: &T, k: usize, text: &mut String) -> Result<(), AllocError>
+fn push_line<T: RecordTable>(
+    heap: Global,
+    table: &T,
+    k: usize,
+    text: &mut String,
+) -> Result<(), AllocError>
     ensures { λ r. ⌜ made r (λ _. string-bytes (now (text .exit)) ≡ string-bytes (now (text .entry)) ++ line (T·RecordTable .place (now (table .entry))) (T·RecordTable .«list_place» (now (table .entry))) k) ⌝ }
 {
     let one = record_line(heap, table, k)?;
@@ -46,7 +50,12 @@ fn push_all<T: RecordTable>(heap: Global, table: &T, text: &mut String) -> Resul
 }
 
 // Adds the lines of the records that meet a window to a text, and tells how many there are.
-fn push_found<T: BoxedTable>(heap: Global, table: &T, window: &Bounds, text: &mut String) -> Result<usize, AllocError>
+fn push_found<T: BoxedTable>(
+    heap: Global,
+    table: &T,
+    window: &Bounds,
+    text: &mut String,
+) -> Result<usize, AllocError>
     ensures { λ r. ⌜ made r (λ n. (n ≡ tally (λ k. met (T·BoxedTable .boxes (now (table .entry)) k) (edges-of (now (window .entry)))) (T·RecordTable .count (now (table .entry))))
         × (string-bytes (now (text .exit)) ≡ string-bytes (now (text .entry)) ++ lines (λ k. met (T·BoxedTable .boxes (now (table .entry)) k) (edges-of (now (window .entry)))) (line (T·RecordTable .place (now (table .entry))) (T·RecordTable .«list_place» (now (table .entry)))) (T·RecordTable .count (now (table .entry))))) ⌝ }
 {
@@ -63,7 +72,12 @@ fn push_found<T: BoxedTable>(heap: Global, table: &T, window: &Bounds, text: &mu
 }
 
 /// The report on all records of a table.
-pub fn report_all<T: RecordTable>(heap: Global, kind: Kind, version: Version, table: &T) -> Result<String, AllocError>
+pub fn report_all<T: RecordTable>(
+    heap: Global,
+    kind: Kind,
+    version: Version,
+    table: &T,
+) -> Result<String, AllocError>
     ensures { λ r. ⌜ made r (λ s. string-bytes s ≡ report-text kind version (T·RecordTable .count (now (table .entry))) every (line (T·RecordTable .place (now (table .entry))) (T·RecordTable .«list_place» (now (table .entry))))) ⌝ }
 {
     let mut text = head_line(heap, kind, version, table.len())?;
@@ -74,7 +88,13 @@ pub fn report_all<T: RecordTable>(heap: Global, kind: Kind, version: Version, ta
 }
 
 /// The report on the records of a table that meet a window.
-pub fn report_found<T: BoxedTable>(heap: Global, kind: Kind, version: Version, table: &T, window: &Bounds) -> Result<String, AllocError>
+pub fn report_found<T: BoxedTable>(
+    heap: Global,
+    kind: Kind,
+    version: Version,
+    table: &T,
+    window: &Bounds,
+) -> Result<String, AllocError>
     ensures { λ r. ⌜ made r (λ s. string-bytes s ≡ report-text kind version (T·RecordTable .count (now (table .entry))) (λ k. met (T·BoxedTable .boxes (now (table .entry)) k) (edges-of (now (window .entry)))) (line (T·RecordTable .place (now (table .entry))) (T·RecordTable .«list_place» (now (table .entry))))) ⌝ }
 {
     let mut text = head_line(heap, kind, version, table.len())?;

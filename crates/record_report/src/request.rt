@@ -1,3 +1,6 @@
+ghost use mathlib.Core.Path.{_≡_};
+ghost use Rattle.std.specs.Vec.{made};
+ghost use Rattle.std.specs.declared.option.Option.the-variants.{None};
 use layout::edges::Edges;
 use std::fmt;
 
@@ -22,13 +25,16 @@ pub enum Fault {
 
 pub impl fmt::Display for Fault as FaultDisplay {
     fn fmt<W: fmt::Write>(&self, f: &mut fmt::Formatter<W>) -> fmt::Result {
-        f.write_str(match self {
-            Fault::Usage => "usage: sheet_records LETTER FILE [--arcs N] [--window MIN_X MAX_X MIN_Y MAX_Y]",
-            Fault::Letter => "the letter is one character: T, A, N or P",
-            Fault::Arcs => "--arcs takes a whole number from 0 to 18446744073709551615",
-            Fault::Window => "--window takes four decimal numbers: MIN_X MAX_X MIN_Y MAX_Y",
-            Fault::NoBoxes => "nodes have no boxes, so a NOD file cannot be searched by window",
-        })
+        f.write_str(
+            match self {
+                Fault::Usage =>
+                    "usage: sheet_records LETTER FILE [--arcs N] [--window MIN_X MAX_X MIN_Y MAX_Y]",
+                Fault::Letter => "the letter is one character: T, A, N or P",
+                Fault::Arcs => "--arcs takes a whole number from 0 to 18446744073709551615",
+                Fault::Window => "--window takes four decimal numbers: MIN_X MAX_X MIN_Y MAX_Y",
+                Fault::NoBoxes => "nodes have no boxes, so a NOD file cannot be searched by window",
+            },
+        )
     }
 }
 
@@ -63,7 +69,12 @@ fn window(words: &[String], at: usize) -> Result<Edges, Fault> {
     let maxx = decimal(words, at.saturating_add(1))?;
     let miny = decimal(words, at.saturating_add(2))?;
     let maxy = decimal(words, at.saturating_add(3))?;
-    Ok(Edges { minx, maxx, miny, maxy })
+    Ok(Edges {
+        minx,
+        maxx,
+        miny,
+        maxy,
+    })
 }
 
 // A word as one letter.
@@ -75,7 +86,10 @@ fn one_letter(word: &String) -> Result<char, Fault> {
 }
 
 /// The request that the words after the program's name make: a letter, a file, and options in any order, each at most once.
-pub fn read_request(words: &[String]) -> Result<Request, Fault> {
+/// A request for nodes has no window.
+pub fn read_request(words: &[String]) -> Result<Request, Fault>
+    ensures { λ r. ⌜ made r (λ q. q .letter ≡ 78 → q .window ≡ None) ⌝ }
+{
     if words.len() < 2 {
         return Err(Fault::Usage);
     }
@@ -98,5 +112,9 @@ pub fn read_request(words: &[String]) -> Result<Request, Fault> {
     if letter == 'N' && bounds.is_some() {
         return Err(Fault::NoBoxes);
     }
-    Ok(Request { letter, arcs: arcs.unwrap_or(0), window: bounds })
+    Ok(Request {
+        letter,
+        arcs: arcs.unwrap_or(0),
+        window: bounds,
+    })
 }

@@ -25,7 +25,13 @@ fn one_case(rt: &LibcRuntime, line: &str) -> Result<(), AnyError> {
         return Ok(());
     };
     let file = fs::read(rt, path.as_str())?;
-    match answer(heap, asked.letter, file.as_slice(), asked.arcs, asked.window)? {
+    match answer(
+        heap,
+        asked.letter,
+        file.as_slice(),
+        asked.arcs,
+        asked.window,
+    )? {
         Answer::Text(text) => print!(rt, "{text}")?,
         Answer::Refused(e) => {
             let number = e.number();

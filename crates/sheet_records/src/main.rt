@@ -34,7 +34,13 @@ fn main(rt: LibcRuntime) -> Result<(), AnyError> {
             return Err("no file".into());
         }
     };
-    match answer(heap, asked.letter, file.as_slice(), asked.arcs, asked.window) {
+    match answer(
+        heap,
+        asked.letter,
+        file.as_slice(),
+        asked.arcs,
+        asked.window,
+    ) {
         Ok(Answer::Text(text)) => {
             print!(rt, "{text}")?;
             Ok(())

@@ -1,2 +1,3 @@
 pub mod WholeLaws
 pub mod MetLaws
+pub mod CountLaws

@@ -2,7 +2,7 @@
 use mathlib.Core.Path.{_≡_}
 use mathlib.Core.Bool.{Bool, true, false, _&&_, cond}
 use mathlib.Core.List.{List}
-use Prim.Native.Nat.{ℕ, _<_, _≤_}
+use Prim.Native.Nat.{ℕ, zero, suc, _+_, _<_, _≤_}
 use Rattle.std.specs.declared.option.Option.{Option}
 use Rattle.std.specs.declared.option.Option.the-variants.{Some, None}
 use Rattle.std.specs.declared.result.Result.{Result}
@@ -45,3 +45,8 @@ met (Err r) w = false
 abbrev pub Lowest : (ℕ → Result Edges Refusal) → ℕ → ℕ → Edges → Option ℕ → Type 0
 Lowest boxes count k w None = (i : ℕ) → i < count → k ≤ i → Meeting (boxes i) w → ⊥
 Lowest boxes count k w (Some f) = (k ≤ f) × (f < count) × Meeting (boxes f) w × ((i : ℕ) → i < f → k ≤ i → Meeting (boxes i) w → ⊥)
+
+-- how many of the first n are wanted
+abbrev pub tally : (ℕ → Bool) → ℕ → ℕ
+tally wanted zero = 0
+tally wanted (suc k) = tally wanted k + cond (wanted k) 1 0

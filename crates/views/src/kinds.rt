@@ -7,7 +7,6 @@ ghost use Rattle.layout.specs.declared.edges.Edges.{Edges};
 ghost use Rattle.layout.specs.Numbers.{Field};
 ghost use Rattle.layout.specs.Boxes.{edges-at, point-at};
 ghost use Rattle.layout.specs.Sizes.{record-size};
-
 use layout::edges::Edges;
 use layout::kind::Kind;
 use refusal::Refusal;
@@ -25,6 +24,7 @@ pub trait RecordKind {
 pub trait BoxedKind: RecordKind {
     // how many bytes of the record tell its box, and what they tell
     ghost extent: { ℕ };
+
     ghost edges: { List ℕ → Edges };
 
     law within: { (w : ℕ) → extent ≤ record-size (Self·RecordKind .kind) w };
@@ -35,8 +35,11 @@ pub trait BoxedKind: RecordKind {
 }
 
 pub struct Points;
+
 pub struct Arcs;
+
 pub struct Nodes;
+
 pub struct Polygons;
 
 pub impl RecordKind for Points as PointsKind {
@@ -74,6 +77,7 @@ pub impl RecordKind for Polygons as PolygonsKind {
 // A point is its own box.
 pub impl BoxedKind for Points as PointsBoxed {
     ghost extent = { 16 };
+
     ghost edges = { λ bs. point-at bs 0 };
 
     fn read_edges(bytes: &[u8]) -> Result<Edges, Refusal> {
@@ -83,6 +87,7 @@ pub impl BoxedKind for Points as PointsBoxed {
 
 pub impl BoxedKind for Arcs as ArcsBoxed {
     ghost extent = { 32 };
+
     ghost edges = { λ bs. edges-at bs 0 };
 
     fn read_edges(bytes: &[u8]) -> Result<Edges, Refusal> {
@@ -92,6 +97,7 @@ pub impl BoxedKind for Arcs as ArcsBoxed {
 
 pub impl BoxedKind for Polygons as PolygonsBoxed {
     ghost extent = { 32 };
+
     ghost edges = { λ bs. edges-at bs 0 };
 
     fn read_edges(bytes: &[u8]) -> Result<Edges, Refusal> {

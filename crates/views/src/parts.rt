@@ -3,7 +3,6 @@ ghost use Prim.Native.Nat.{ℕ, _+_, _*_, _≤_};
 ghost use lib.ListN.{length};
 ghost use Rattle.views.specs.Parts.{part-outcome};
 ghost use Rattle.views.specs.Handing.{Handed};
-
 use super::part::Part;
 use refusal::Refusal;
 
@@ -17,11 +16,20 @@ impl<'a> Part<'a> {
             return Err(Refusal::PastEnd);
         }
         let end = at + len;
-        Ok(Part { bytes: &file[at..end], place: at })
+        Ok(Part {
+            bytes: &file[at..end],
+            place: at,
+        })
     }
 
     /// The part that has `count` times `size` bytes, `skipped` times `size` bytes after `at`. 1 when it passes the end.
-    pub fn of_many(file: &'a [u8], at: usize, skipped: usize, count: usize, size: usize) -> Result<Part<'a>, Refusal>
+    pub fn of_many(
+        file: &'a [u8],
+        at: usize,
+        skipped: usize,
+        count: usize,
+        size: usize,
+    ) -> Result<Part<'a>, Refusal>
         ensures { λ r. ⌜ Handed (now (file .entry)) (part-outcome (now (file .entry)) (at + skipped * size) (count * size)) r ⌝ }
     {
         let Some(before) = skipped.checked_mul(size) else {

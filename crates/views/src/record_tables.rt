@@ -8,7 +8,6 @@ ghost use Rattle.layout.specs.Numbers.{number-at};
 ghost use Rattle.views.specs.Parts.{record-outcome, list-outcome, list-place, entries};
 ghost use Rattle.views.specs.Handing.{Handed};
 ghost use Rattle.views.specs.Windows.{box-outcome, told};
-
 use super::kinds::BoxedKind;
 use super::kinds::RecordKind;
 use super::part::Part;
@@ -31,7 +30,12 @@ fn short_number(file: &[u8], at: usize) -> usize
 }
 
 // Where the list of the record at a place begins, and how many entries it has.
-fn list_head(kind: Kind, version: Version, file: &[u8], at: usize) -> Result<(usize, usize), Refusal>
+fn list_head(
+    kind: Kind,
+    version: Version,
+    file: &[u8],
+    at: usize,
+) -> Result<(usize, usize), Refusal>
     requires { ⌜ at + record-size kind (width version) ≤ length (now file) ⌝ }
     ensures { λ r. ⌜ r ≡ Ok (list-place kind (width version) (now (file .entry)) at, entries kind (width version) (now (file .entry)) at) ⌝ }
 {
@@ -89,8 +93,11 @@ impl<'a, K: RecordKind> Records<'a, K> {
 
 pub impl<'a, K: RecordKind> RecordTable for Records<'a, K> as RecordsTable {
     ghost file = { λ t. now (t .file) };
+
     ghost count = { λ t. t .shape .count };
+
     ghost place = { λ t k. record-outcome (K·RecordKind .kind) (now (t .file)) (t .shape) k };
+
     ghost list_place = { λ t k. list-outcome (K·RecordKind .kind) (now (t .file)) (t .shape) k };
 
     fn len(&self) -> usize {

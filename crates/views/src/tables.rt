@@ -7,8 +7,7 @@ ghost use Rattle.refusal.specs.declared.Refusal.{Refusal as Refused};
 ghost use Rattle.layout.specs.declared.edges.Edges.{Edges};
 ghost use Rattle.layout.specs.Boxes.{edges-of};
 ghost use Rattle.views.specs.Handing.{Handed};
-ghost use Rattle.views.specs.Windows.{told, Meeting, Lowest};
-
+ghost use Rattle.views.specs.Windows.{told, Meeting, Lowest, met, tally};
 use super::part::Part;
 use layout::bounds::Bounds;
 use refusal::Refusal;
@@ -16,10 +15,12 @@ use refusal::Refusal;
 /// The records of a file.
 pub trait RecordTable {
     ghost file: { Self → List ℕ };
+
     ghost count: { Self → ℕ };
 
     // where a record and its list lie, or why there is none
     ghost place: { Self → ℕ → Outcome (ℕ × ℕ) Refused };
+
     ghost list_place: { Self → ℕ → Outcome (ℕ × ℕ) Refused };
 
     /// How many records there are.
@@ -64,4 +65,19 @@ pub fn search<T: BoxedTable>(table: &T, k: usize, window: &Bounds) -> Option<usi
         }
     }
     None
+}
+
+/// How many records meet the window.
+pub fn count_meeting<T: BoxedTable>(table: &T, window: &Bounds) -> usize
+    ensures { λ r. ⌜ r ≡ tally (λ k. met (T·BoxedTable .boxes (now (table .entry)) k) (edges-of (now (window .entry)))) (T·RecordTable .count (now (table .entry))) ⌝ }
+{
+    // how many records there are fits a usize, so no sum below passes its largest
+    let _count = table.len();
+    let mut n = 0;
+    let mut k = 0;
+    while let Some(f) = search(table, k, window) {
+        n += 1;
+        k = f + 1;
+    }
+    n
 }

@@ -4,7 +4,6 @@ ghost use Rattle.views.specs.Shapes.{view-outcome, placed-by, records-end};
 ghost use Rattle.views.specs.Viewed.{Viewed, Whole};
 ghost use Rattle.std.specs.Options.{Cases as BySome};
 ghost use Rattle.std.specs.Vec.{made};
-
 use super::records::Records;
 use super::shape::Shape;
 use super::view::View;
@@ -42,7 +41,14 @@ fn placed(header: Header, arcs: u64, size: usize) -> Result<(Kind, Shape), Refus
     if end_within(first, header.count, stride, size).is_none() {
         return Err(Refusal::PastEnd);
     }
-    Ok((header.kind, Shape { version: header.version, first, count: header.count as usize }))
+    Ok((
+        header.kind,
+        Shape {
+            version: header.version,
+            first,
+            count: header.count as usize,
+        },
+    ))
 }
 
 // The kind of a file that is asked for by letter, and where its records lie.
@@ -62,10 +68,26 @@ impl<'a> View<'a> {
     {
         let (kind, shape) = located(letter, file, arcs)?;
         match kind {
-            Kind::Points => Ok(View::OfPoints(Records { file, shape, kind: PhantomData })),
-            Kind::Arcs => Ok(View::OfArcs(Records { file, shape, kind: PhantomData })),
-            Kind::Nodes => Ok(View::OfNodes(Records { file, shape, kind: PhantomData })),
-            Kind::Polygons => Ok(View::OfPolygons(Records { file, shape, kind: PhantomData })),
+            Kind::Points => Ok(View::OfPoints(Records {
+                file,
+                shape,
+                kind: PhantomData,
+            })),
+            Kind::Arcs => Ok(View::OfArcs(Records {
+                file,
+                shape,
+                kind: PhantomData,
+            })),
+            Kind::Nodes => Ok(View::OfNodes(Records {
+                file,
+                shape,
+                kind: PhantomData,
+            })),
+            Kind::Polygons => Ok(View::OfPolygons(Records {
+                file,
+                shape,
+                kind: PhantomData,
+            })),
         }
     }
 }

@@ -9,7 +9,7 @@ pub returns : need.returns
 returns g c =
     let t = c .args .table .now in
     joined (lines (λ k. met (g .T·BoxedTable .boxes t k) (edges-of (c .args .window .now))) (line (g .T·RecordTable .place t) (g .T·RecordTable .«list_place» t)) (g .T·RecordTable .count t))
-        (c .in-Continue-text .ensures tt ∙ ap (head-text (c .args .kind) (c .args .version)) (c .len .ensures))
-        (c .in-Continue-n .ensures tt .1)
-        (c .in-Continue-foot .ensures tt ∙ ap foot-text (c .in-Continue-n .ensures tt .0))
-        (c .in-Continue-push-text .ensures tt)
+    (c .in-Continue-text .ensures tt ∙ ap (head-text (c .args .kind) (c .args .version)) (c .len .ensures))
+    (c .in-Continue-n .ensures tt .1)
+    (c .in-Continue-foot .ensures tt ∙ ap foot-text (c .in-Continue-n .ensures tt .0))
+    (c .in-Continue-push-text .ensures tt)

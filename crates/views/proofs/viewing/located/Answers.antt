@@ -10,6 +10,7 @@ use Rattle.views.proofs.viewing.located.Needs as need
 pub returns : need.returns
 returns c =
     let bs = c .args .file .now in
-    record
-      { value = search needs
-      ; whole = made-weaker (c .placed .result) (λ p. records-end (p .0) (p .1) ≤ length bs) (λ p. Whole (p .0) bs (p .1)) (λ p h. whole-from-end (p .0) bs (p .1) h) (c .placed .ensures .ends) }
+    record {
+      value = search needs;
+      whole = made-weaker (c .placed .result) (λ p. records-end (p .0) (p .1) ≤ length bs) (λ p. Whole (p .0) bs (p .1)) (λ p h. whole-from-end (p .0) bs (p .1) h) (c .placed .ensures .ends);
+    }
