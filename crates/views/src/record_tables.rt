@@ -75,7 +75,7 @@ impl<'a, K: RecordKind> Records<'a, K> {
         if k >= self.shape.count {
             return Err(Refusal::NoSuchElement);
         }
-        let size = self.shape.version.sizes().record(K::kind());
+        let size = self.version().sizes().record(K::kind());
         Part::of_many(self.file, self.shape.first, k, 1, size)
     }
 
@@ -85,8 +85,8 @@ impl<'a, K: RecordKind> Records<'a, K> {
     {
         let record = self.record_of(k)?;
         let kind = K::kind();
-        let (place, count) = list_head(kind, self.shape.version, self.file, record.place)?;
-        let entry = self.shape.version.sizes().list_entry(kind);
+        let (place, count) = list_head(kind, self.version(), self.file, record.place)?;
+        let entry = self.version().sizes().list_entry(kind);
         Part::of_many(self.file, place, 0, count, entry)
     }
 }
