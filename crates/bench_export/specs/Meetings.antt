@@ -5,13 +5,14 @@ use Prim.Native.Nat.{ℕ}
 use Rattle.std.specs.declared.result.Result.{Result}
 use Rattle.std.specs.declared.result.Result.the-variants.{Ok, Err}
 use Rattle.refusal.specs.declared.Refusal.{Refusal}
-use Rattle.layout.specs.declared.edges.Edges.{Edges}
+use Rattle.boxes.specs.declared.edges.Edges.{Edges}
 use Rattle.layout.specs.declared.kind.Kind.{Kind}
 use Rattle.layout.specs.declared.kind.Kind.the-variants.{Points, Arcs, Nodes, Polygons}
-use Rattle.layout.specs.Boxes.{edges-at, fair-edges}
+use Rattle.boxes.specs.Boxes.{edges-at, fair-edges}
 use Rattle.views.specs.declared.shape.Shape.{Shape}
 use Rattle.views.specs.Shapes.{view-outcome}
-use Rattle.views.specs.Windows.{box-outcome, met, tally}
+use Rattle.views.specs.Boxing.{box-outcome}
+use Rattle.tables.specs.Windows.{met, tally}
 
 -- the largest number of 64 bits stands for a refusal
 abbrev pub refused-count : ℕ

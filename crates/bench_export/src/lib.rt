@@ -1,15 +1,15 @@
 // The search, for the benchmark's Rust program.
 ghost use mathlib.Core.Path.{_≡_};
 ghost use Rattle.bench_export.specs.Meetings.{among, arcs-meeting};
-use layout::bounds::Bounds;
-use layout::edges::Edges;
+use boxes::bounds::Bounds;
+use boxes::edges::Edges;
 use views::kinds::Arcs;
 use views::kinds::ArcsBoxed;
 use views::kinds::ArcsKind;
 use views::record_tables::RecordsBoxed;
 use views::record_tables::RecordsTable;
 use views::records::Records;
-use views::tables::count_meeting;
+use tables::tables::count_meeting;
 use views::view::View;
 
 // How many arcs of a table meet a window.

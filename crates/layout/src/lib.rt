@@ -1,12 +1,5 @@
-// How the files of a sheet are laid out: kinds, editions, sizes, numbers, doubles, boxes, headers and flags.
-pub mod bounds;
-pub mod boxes;
-pub mod doubles;
-pub mod edges;
+// How the files of a sheet are laid out: kinds, versions, sizes, and numbers in either edition.
 pub mod edition;
-pub mod flags;
-pub mod header;
-pub mod heads;
 pub mod kind;
 pub mod sizes;
 pub mod texts;

@@ -7,12 +7,12 @@ use native.Mathlib.Omega.{arith}
 use Rattle.std.specs.declared.option.Option.the-variants.{Some, None}
 use Rattle.std.specs.declared.result.Result.{Result}
 use Rattle.refusal.specs.declared.Refusal.{Refusal}
-use Rattle.layout.specs.declared.edges.Edges.{Edges}
-use Rattle.layout.specs.declared.bounds.Bounds.{Bounds}
-use Rattle.layout.specs.Boxes.{edges-of}
-use Rattle.views.specs.Windows.{Meeting, met, Lowest, tally}
-use Rattle.views.proofs.MetLaws.{met-from-meeting}
-use Rattle.views.proofs.CountLaws.{none-between, count-turn, count-end}
+use Rattle.boxes.specs.declared.edges.Edges.{Edges}
+use Rattle.boxes.specs.declared.bounds.Bounds.{Bounds}
+use Rattle.boxes.specs.Boxes.{edges-of}
+use Rattle.tables.specs.Windows.{Meeting, met, Lowest, tally}
+use Rattle.tables.proofs.MetLaws.{met-from-meeting}
+use Rattle.tables.proofs.CountLaws.{none-between, count-turn, count-end}
 use Rattle.record_report.specs.Texts.{lines}
 use Rattle.record_report.proofs.LineLaws.{lines-more, lines-none}
 

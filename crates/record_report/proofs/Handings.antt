@@ -5,8 +5,8 @@ use Prim.Native.Nat.{ℕ}
 use Rattle.std.specs.declared.result.Result.{Result}
 use Rattle.std.specs.declared.result.Result.the-variants.{Ok, Err}
 use Rattle.refusal.specs.declared.Refusal.{Refusal}
-use Rattle.views.specs.declared.part.Part.{Part}
-use Rattle.views.specs.Handing.{Handed, extent-of}
+use Rattle.tables.specs.declared.part.Part.{Part}
+use Rattle.tables.specs.Handing.{Handed, extent-of}
 use Rattle.record_report.specs.Texts.{line-of}
 
 pub handed-extent : (bs : List ℕ) (o : Result (ℕ × ℕ) Refusal) (r : Result Part Refusal) → Handed bs o r → extent-of r ≡ o

@@ -9,14 +9,15 @@ use Rattle.std.specs.declared.result.Result.{Result}
 use Rattle.std.specs.declared.result.Result.the-variants.{Ok, Err}
 use Rattle.refusal.specs.declared.Refusal.{Refusal}
 use Rattle.refusal.specs.declared.Refusal.the-variants.{UnfitBox}
-use Rattle.layout.specs.declared.edges.Edges.{Edges}
+use Rattle.boxes.specs.declared.edges.Edges.{Edges}
 use Rattle.layout.specs.declared.kind.Kind.{Kind}
 use Rattle.layout.specs.declared.kind.Kind.the-variants.{Points, Arcs, Nodes, Polygons}
-use Rattle.layout.specs.Boxes.{edges-at, point-at, fair-edges}
+use Rattle.boxes.specs.Boxes.{edges-at, point-at, fair-edges}
 use Rattle.views.specs.declared.shape.Shape.{Shape}
 use Rattle.views.specs.Parts.{record-outcome, list-outcome}
 use Rattle.views.specs.Shapes.{view-outcome}
-use Rattle.views.specs.Windows.{box-outcome, met}
+use Rattle.views.specs.Boxing.{box-outcome}
+use Rattle.tables.specs.Windows.{met}
 use Rattle.record_report.specs.declared.answer.Answer.{Answer}
 use Rattle.record_report.specs.declared.answer.Answer.the-variants.{Text, Refused, NoBoxes}
 use Rattle.record_report.specs.Texts.{line, report-text, every}

@@ -14,7 +14,7 @@ use Rattle.layout.specs.declared.kind.Kind.{Kind}
 use Rattle.layout.specs.declared.kind.Kind.the-variants.{Points, Arcs, Nodes, Polygons}
 use Rattle.layout.specs.declared.version.Version.{Version}
 use Rattle.layout.specs.declared.version.Version.the-variants.{V11, V20}
-use Rattle.views.specs.Windows.{tally}
+use Rattle.tables.specs.Windows.{tally}
 
 abbrev pub kind-text : Kind → List ℕ
 kind-text Points = codes "PNT"

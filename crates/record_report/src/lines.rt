@@ -5,15 +5,15 @@ ghost use lib.ListN.{length};
 ghost use denote.Ref.{now};
 ghost use Rattle.std.specs.Of.String.{string-bytes};
 ghost use Rattle.std.specs.Vec.{made};
-ghost use Rattle.views.specs.Handing.{extent-of};
+ghost use Rattle.tables.specs.Handing.{extent-of};
 ghost use Rattle.record_report.specs.Texts.{kind-text, version-text, extent-text, line-of, line, head-text, foot-text};
 use layout::kind::Kind;
 use layout::version::Version;
 use refusal::Refusal;
 use std::alloc::AllocError;
 use std::alloc::Global;
-use views::part::Part;
-use views::tables::RecordTable;
+use tables::part::Part;
+use tables::tables::RecordTable;
 
 /// The three letters of a kind.
 pub fn kind_name(kind: Kind) -> &'static str

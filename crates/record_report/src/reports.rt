@@ -4,20 +4,20 @@ ghost use mathlib.Core.List.{List, _++_};
 ghost use Prim.Native.Nat.{ℕ, _+_, _≤_};
 ghost use Rattle.std.specs.Of.String.{string-bytes};
 ghost use Rattle.std.specs.Vec.{made};
-ghost use Rattle.layout.specs.Boxes.{edges-of};
-ghost use Rattle.views.specs.Windows.{met, tally};
+ghost use Rattle.boxes.specs.Boxes.{edges-of};
+ghost use Rattle.tables.specs.Windows.{met, tally};
 ghost use Rattle.record_report.specs.Texts.{line, lines, head-text, foot-text, report-text, every};
 use super::lines::foot_line;
 use super::lines::head_line;
 use super::lines::record_line;
-use layout::bounds::Bounds;
+use boxes::bounds::Bounds;
 use layout::kind::Kind;
 use layout::version::Version;
 use std::alloc::AllocError;
 use std::alloc::Global;
-use views::tables::BoxedTable;
-use views::tables::RecordTable;
-use views::tables::search;
+use tables::tables::BoxedTable;
+use tables::tables::RecordTable;
+use tables::tables::search;
 
 // Adds more to a text.
 fn push_text(text: &mut String, more: &String) -> Result<(), AllocError>

@@ -1,7 +1,7 @@
 ghost use mathlib.Core.Path.{_≡_};
 ghost use Rattle.std.specs.Vec.{made};
 ghost use Rattle.std.specs.declared.option.Option.the-variants.{None};
-use layout::edges::Edges;
+use boxes::edges::Edges;
 use std::fmt;
 
 /// A request for the records of a file.

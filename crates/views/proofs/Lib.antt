@@ -1,3 +1,1 @@
 pub mod WholeLaws
-pub mod MetLaws
-pub mod CountLaws

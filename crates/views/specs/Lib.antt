@@ -1,5 +1,4 @@
 pub mod Parts
 pub mod Shapes
-pub mod Handing
-pub mod Windows
+pub mod Boxing
 pub mod Viewed

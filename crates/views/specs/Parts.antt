@@ -13,11 +13,8 @@ use Rattle.layout.specs.declared.kind.Kind.the-variants.{Points, Arcs, Nodes, P
 use Rattle.layout.specs.declared.version.Version.{Version}
 use Rattle.layout.specs.Numbers.{number-at}
 use Rattle.layout.specs.Sizes.{width, record-size, entry-size}
+use Rattle.tables.specs.Extents.{part-outcome}
 use Rattle.views.specs.declared.shape.Shape.{Shape}
-
--- A part of n bytes at a place: 1 when it passes the end, an empty one too.
-abbrev pub part-outcome : List ℕ → ℕ → ℕ → Result (ℕ × ℕ) Refusal
-part-outcome bs at n = cond (leb (at + n) (length bs)) (Ok (at, n)) (Err PastEnd)
 
 -- Record k: 20 when there is none.
 abbrev pub record-outcome : Kind → List ℕ → Shape → ℕ → Result (ℕ × ℕ) Refusal

@@ -11,10 +11,10 @@ use Rattle.refusal.specs.declared.Refusal.{Refusal}
 use Rattle.refusal.specs.declared.Refusal.the-variants.{PastEnd}
 use Rattle.layout.specs.declared.kind.Kind.{Kind}
 use Rattle.layout.specs.declared.kind.Kind.the-variants.{Points, Arcs, Nodes, Polygons}
-use Rattle.layout.specs.declared.header.Header.{Header}
+use Rattle.headers.specs.declared.header.Header.{Header}
 use Rattle.layout.specs.Sizes.{width, header-size, sides-size, record-size}
 use Rattle.layout.specs.Texts.{kind-by-letter}
-use Rattle.layout.specs.Heads.{header-outcome}
+use Rattle.headers.specs.Heads.{header-outcome}
 use Rattle.views.specs.declared.shape.Shape.{Shape}
 
 -- where the records begin: after the header, and in a POL after the sides of the arcs

@@ -3,11 +3,11 @@ ghost use mathlib.Core.List.{List};
 ghost use Prim.Native.Nat.{ℕ, _≤_};
 ghost use Rattle.layout.specs.declared.kind.Kind.{Kind};
 ghost use Rattle.layout.specs.declared.kind.Kind.the-variants.{Points as PointKind, Arcs as ArcKind, Nodes as NodeKind, Polygons as PolygonKind};
-ghost use Rattle.layout.specs.declared.edges.Edges.{Edges};
+ghost use Rattle.boxes.specs.declared.edges.Edges.{Edges};
 ghost use Rattle.layout.specs.Numbers.{Field};
-ghost use Rattle.layout.specs.Boxes.{edges-at, point-at};
+ghost use Rattle.boxes.specs.Boxes.{edges-at, point-at};
 ghost use Rattle.layout.specs.Sizes.{record-size};
-use layout::edges::Edges;
+use boxes::edges::Edges;
 use layout::kind::Kind;
 use refusal::Refusal;
 

@@ -7,7 +7,7 @@ ghost use Rattle.std.specs.Vec.{made};
 use super::records::Records;
 use super::shape::Shape;
 use super::view::View;
-use layout::header::Header;
+use headers::header::Header;
 use layout::kind::Kind;
 use refusal::Refusal;
 use std::marker::PhantomData;

@@ -2,8 +2,8 @@ use mathlib.Core.Path.{_≡_}
 use mathlib.Core.List.{_++_}
 use Prim.Native.Nat.{_-_, _≤_}
 use Rattle.std.specs.Of.String.{string-bytes}
-use Rattle.layout.specs.Boxes.{edges-of}
-use Rattle.views.specs.Windows.{met, tally}
+use Rattle.boxes.specs.Boxes.{edges-of}
+use Rattle.tables.specs.Windows.{met, tally}
 use Rattle.record_report.specs.Texts.{line, lines}
 use Rattle.record_report.proofs.reports.push_found.Given as given
 

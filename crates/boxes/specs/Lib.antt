@@ -1,0 +1,3 @@
+pub mod Doubles
+pub mod Fairs
+pub mod Boxes

@@ -1,0 +1,3 @@
+// The header that every file begins with.
+pub mod header;
+pub mod heads;
