@@ -1,5 +1,5 @@
-use boxes::edges::Edges;
 use bits::Flags;
+use boxes::edges::Edges;
 use layout::kind::Kind;
 use layout::version::Version;
 

@@ -13,7 +13,7 @@ use Rattle.boxes.specs.Boxes.{edges-of}
 use Rattle.tables.specs.Windows.{Meeting, met, Lowest, tally}
 use Rattle.tables.proofs.MetLaws.{met-from-meeting}
 use Rattle.tables.proofs.CountLaws.{none-between, count-turn, count-end}
-use Rattle.record_report.specs.Texts.{lines}
+use Rattle.record_report.specs.Reports.{lines}
 use Rattle.record_report.proofs.LineLaws.{lines-more, lines-none}
 
 module _ (boxes : ℕ → Result Edges Refusal) (w : Bounds) (text : ℕ → List ℕ) (start : List ℕ) where

@@ -1,3 +1,2 @@
-pub mod Handings
 pub mod LineLaws
 pub mod FoundLaws

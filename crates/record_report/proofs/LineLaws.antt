@@ -8,7 +8,7 @@ use native.Mathlib.Omega.{arith}
 use native.Mathlib.Numerals.{add-one}
 use Rattle.std.proofs.shelf.Lists.{append-assoc, append-nil}
 use Rattle.std.proofs.shelf.Tests.{cases-eq, cond-true, cond-false}
-use Rattle.record_report.specs.Texts.{lines}
+use Rattle.record_report.specs.Reports.{lines}
 
 -- the lines up to a record that is wanted
 pub lines-more : (wanted : ℕ → Bool) (text : ℕ → List ℕ) (start : List ℕ) (f : ℕ) → wanted f ≡ true → (start ++ lines wanted text f) ++ text f ≡ start ++ lines wanted text (f + 1)

@@ -20,7 +20,8 @@ use Rattle.views.specs.Boxing.{box-outcome}
 use Rattle.tables.specs.Windows.{met}
 use Rattle.record_report.specs.declared.answer.Answer.{Answer}
 use Rattle.record_report.specs.declared.answer.Answer.the-variants.{Text, Refused, NoBoxes}
-use Rattle.record_report.specs.Texts.{line, report-text, every}
+use Rattle.record_lines.specs.Texts.{line}
+use Rattle.record_report.specs.Reports.{report-text, every}
 
 -- the report on the wanted records of a file
 abbrev pub text-on : Kind → List ℕ → Shape → (ℕ → Bool) → List ℕ

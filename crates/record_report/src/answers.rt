@@ -6,7 +6,7 @@ ghost use Rattle.record_report.specs.Answers.{text-on, meeting, by-window, ans
 ghost use Rattle.views.specs.Viewed.{kind-seen, file-seen, shape-seen};
 ghost use Rattle.std.specs.declared.result.Result.the-variants.{Ok};
 ghost use Rattle.std.specs.declared.option.Option.the-variants.{Some};
-ghost use Rattle.record_report.specs.Texts.{every};
+ghost use Rattle.record_report.specs.Reports.{every};
 use super::answer::Answer;
 use super::reports::report_all;
 use super::reports::report_found;

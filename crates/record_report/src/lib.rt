@@ -1,6 +1,4 @@
-// The report on the records of a file: its lines, the whole text, and the answer to a request.
+// The report on the records of a file, and the answer to a request for them.
 pub mod answer;
 pub mod answers;
-pub mod lines;
 pub mod reports;
-pub mod request;

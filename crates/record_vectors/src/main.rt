@@ -1,8 +1,8 @@
 // Answers every request of the file `cases`, one to a line, as sheet_records does, and prints each after its request.
 use record_report::answer::Answer;
 use record_report::answers::answer;
-use record_report::request::FaultDisplay;
-use record_report::request::read_request;
+use record_request::FaultDisplay;
+use record_request::read_request;
 use std::error::AnyError;
 use std::fs;
 

@@ -1,9 +1,9 @@
 // Finds the records of a MiraMon file that meet a window, and prints each record and its list with their places.
 use record_report::answer::Answer;
 use record_report::answers::answer;
-use record_report::request::Fault;
-use record_report::request::FaultDisplay;
-use record_report::request::read_request;
+use record_request::Fault;
+use record_request::FaultDisplay;
+use record_request::read_request;
 use std::env;
 use std::error::AnyError;
 use std::fs;

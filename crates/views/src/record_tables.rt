@@ -11,14 +11,14 @@ ghost use Rattle.views.specs.Boxing.{box-outcome};
 ghost use Rattle.tables.specs.Windows.{told};
 use super::kinds::BoxedKind;
 use super::kinds::RecordKind;
-use tables::part::Part;
 use super::records::Records;
-use tables::tables::BoxedTable;
-use tables::tables::RecordTable;
 use boxes::bounds::Bounds;
 use layout::kind::Kind;
 use layout::version::Version;
 use refusal::Refusal;
+use tables::part::Part;
+use tables::tables::BoxedTable;
+use tables::tables::RecordTable;
 
 // The number of two bytes that stands at a place.
 fn short_number(file: &[u8], at: usize) -> usize

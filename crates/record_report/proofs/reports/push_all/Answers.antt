@@ -1,7 +1,8 @@
 use mathlib.Core.Path.{_≡_, refl, ap, _∙_}
 use mathlib.Core.List.{_++_}
 use Rattle.std.specs.Of.String.{string-bytes}
-use Rattle.record_report.specs.Texts.{line, every}
+use Rattle.record_lines.specs.Texts.{line}
+use Rattle.record_report.specs.Reports.{every}
 use Rattle.record_report.proofs.LineLaws.{lines-more}
 use Rattle.record_report.proofs.reports.push_all.Needs as need
 

@@ -1,7 +1,8 @@
 use mathlib.Core.Path.{_≡_}
 use mathlib.Core.List.{_++_}
 use Rattle.std.specs.Of.String.{string-bytes}
-use Rattle.record_report.specs.Texts.{line, lines, every}
+use Rattle.record_lines.specs.Texts.{line}
+use Rattle.record_report.specs.Reports.{lines, every}
 use Rattle.record_report.proofs.reports.push_all.Given as given
 
 abbrev pub Inv-loop-k : given.InvT-loop-k

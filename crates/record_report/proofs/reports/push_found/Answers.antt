@@ -1,6 +1,6 @@
 use native.Mathlib.Omega.{arith}
 use Rattle.std.specs.Of.String.{string-bytes}
-use Rattle.record_report.specs.Texts.{line}
+use Rattle.record_lines.specs.Texts.{line}
 use Rattle.record_report.proofs.FoundLaws.{found-turn, found-end}
 use Rattle.record_report.proofs.reports.push_found.Needs as need
 

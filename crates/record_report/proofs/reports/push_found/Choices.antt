@@ -4,7 +4,8 @@ use Prim.Native.Nat.{_-_, _≤_}
 use Rattle.std.specs.Of.String.{string-bytes}
 use Rattle.boxes.specs.Boxes.{edges-of}
 use Rattle.tables.specs.Windows.{met, tally}
-use Rattle.record_report.specs.Texts.{line, lines}
+use Rattle.record_lines.specs.Texts.{line}
+use Rattle.record_report.specs.Reports.{lines}
 use Rattle.record_report.proofs.reports.push_found.Given as given
 
 abbrev pub Inv-loop-f : given.InvT-loop-f

@@ -1,6 +1,7 @@
 use mathlib.Core.Path.{_≡_, ap, _∙_, sym}
 use Rattle.tables.proofs.CountLaws.{tally-every}
-use Rattle.record_report.specs.Texts.{line, lines, every, head-text, foot-text}
+use Rattle.record_lines.specs.Texts.{line, head-text, foot-text}
+use Rattle.record_report.specs.Reports.{lines, every}
 use Rattle.record_report.proofs.LineLaws.{joined}
 use Rattle.record_report.proofs.reports.report_all.Needs as need
 

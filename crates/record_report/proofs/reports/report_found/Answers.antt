@@ -1,7 +1,8 @@
 use mathlib.Core.Path.{_≡_, ap, _∙_, sym}
 use Rattle.boxes.specs.Boxes.{edges-of}
 use Rattle.tables.specs.Windows.{met}
-use Rattle.record_report.specs.Texts.{line, lines, head-text, foot-text}
+use Rattle.record_lines.specs.Texts.{line, head-text, foot-text}
+use Rattle.record_report.specs.Reports.{lines}
 use Rattle.record_report.proofs.LineLaws.{joined}
 use Rattle.record_report.proofs.reports.report_found.Needs as need
 

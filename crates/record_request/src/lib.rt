@@ -1,3 +1,4 @@
+// A request for the records of a file, in the words of a command line.
 ghost use mathlib.Core.Path.{_≡_};
 ghost use Rattle.std.specs.Vec.{made};
 ghost use Rattle.std.specs.declared.option.Option.the-variants.{None};

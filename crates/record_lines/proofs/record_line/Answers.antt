@@ -2,9 +2,9 @@ use borrow.Author.Needs.{needs}
 use mathlib.Core.Path.{_≡_, sym, ap, _∙_}
 use Rattle.std.specs.Of.String.{string-bytes}
 use Rattle.std.proofs.shelf.Results.{made-weaker}
-use Rattle.record_report.specs.Texts.{extent-text}
-use Rattle.record_report.proofs.Handings.{handed-extent, line-of-same}
-use Rattle.record_report.proofs.lines.record_line.Needs as need
+use Rattle.record_lines.specs.Texts.{extent-text}
+use Rattle.record_lines.proofs.Handings.{handed-extent, line-of-same}
+use Rattle.record_lines.proofs.record_line.Needs as need
 
 pub returns : need.returns
 returns g c =

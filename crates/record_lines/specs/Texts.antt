@@ -1,4 +1,4 @@
--- The text of a report, byte for byte.
+-- The lines of a report, byte for byte.
 use mathlib.Core.Bool.{Bool, true, false, cond}
 use mathlib.Core.List.{List, [], _∷_, _++_}
 use Prim.Native.Nat.{ℕ, zero, suc, _+_}
@@ -14,7 +14,6 @@ use Rattle.layout.specs.declared.kind.Kind.{Kind}
 use Rattle.layout.specs.declared.kind.Kind.the-variants.{Points, Arcs, Nodes, Polygons}
 use Rattle.layout.specs.declared.version.Version.{Version}
 use Rattle.layout.specs.declared.version.Version.the-variants.{V11, V20}
-use Rattle.tables.specs.Windows.{tally}
 
 abbrev pub kind-text : Kind → List ℕ
 kind-text Points = codes "PNT"
@@ -39,20 +38,8 @@ line-of k place list = decimal k ++ (codes " record " ++ (place ++ (codes " list
 abbrev pub line : (ℕ → Result (ℕ × ℕ) Refusal) → (ℕ → Result (ℕ × ℕ) Refusal) → ℕ → List ℕ
 line places lists k = line-of k (extent-text (places k)) (extent-text (lists k))
 
--- the lines of the first n records, of those that are wanted
-abbrev pub lines : (ℕ → Bool) → (ℕ → List ℕ) → ℕ → List ℕ
-lines wanted text zero = []
-lines wanted text (suc k) = lines wanted text k ++ cond (wanted k) (text k) []
-
 abbrev pub head-text : Kind → Version → ℕ → List ℕ
 head-text kind version count = kind-text kind ++ (codes " " ++ (version-text version ++ (codes " records " ++ (decimal count ++ codes "\n"))))
 
 abbrev pub foot-text : ℕ → List ℕ
 foot-text n = codes "found " ++ (decimal n ++ codes "\n")
-
--- the whole report on a table of so many records
-abbrev pub report-text : Kind → Version → ℕ → (ℕ → Bool) → (ℕ → List ℕ) → List ℕ
-report-text kind version count wanted text = head-text kind version count ++ (lines wanted text count ++ foot-text (tally wanted count))
-
-abbrev pub every : ℕ → Bool
-every k = true

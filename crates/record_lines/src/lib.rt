@@ -1,3 +1,4 @@
+// The lines of a report on the records of a file.
 ghost use mathlib.Core.Path.{_≡_};
 ghost use mathlib.Core.List.{List, _++_};
 ghost use Prim.Native.Nat.{ℕ, _+_};
@@ -6,7 +7,7 @@ ghost use denote.Ref.{now};
 ghost use Rattle.std.specs.Of.String.{string-bytes};
 ghost use Rattle.std.specs.Vec.{made};
 ghost use Rattle.tables.specs.Handing.{extent-of};
-ghost use Rattle.record_report.specs.Texts.{kind-text, version-text, extent-text, line-of, line, head-text, foot-text};
+ghost use Rattle.record_lines.specs.Texts.{kind-text, version-text, extent-text, line-of, line, head-text, foot-text};
 use layout::kind::Kind;
 use layout::version::Version;
 use refusal::Refusal;

@@ -7,7 +7,7 @@ use Rattle.std.specs.declared.result.Result.the-variants.{Ok, Err}
 use Rattle.refusal.specs.declared.Refusal.{Refusal}
 use Rattle.tables.specs.declared.part.Part.{Part}
 use Rattle.tables.specs.Handing.{Handed, extent-of}
-use Rattle.record_report.specs.Texts.{line-of}
+use Rattle.record_lines.specs.Texts.{line-of}
 
 pub handed-extent : (bs : List ℕ) (o : Result (ℕ × ℕ) Refusal) (r : Result Part Refusal) → Handed bs o r → extent-of r ≡ o
 handed-extent bs o (Ok p) h = sym (h .0)
