@@ -1,6 +1,6 @@
-// Measures the search by window of the proved library against plain Rust.
+// Measures the proved search by window against plain Rust.
 //
-// Both count the arcs of an ARC file whose box meets a window. The file is made
+// Both count the arcs of an ARC file whose boxes meet a window. The files are made
 // in memory. Times never fail the run; answers that differ do.
 
 use std::hint::black_box;
@@ -10,7 +10,7 @@ const REFUSED: u64 = u64::MAX;
 const RECORDS: usize = 1_000_000;
 const REPETITIONS: usize = 31;
 
-mod proved {
+mod natharqo {
     extern "C" {
         fn natharqo_arcs_meeting(file: *const u8, len: usize, minx: f64, maxx: f64, miny: f64, maxy: f64) -> u64;
     }
@@ -180,6 +180,18 @@ const WINDOWS: [(&str, [f64; 4]); 5] = [
     ("all", ALL),
 ];
 
+/// A box on a small grid, with zeros of either sign. Not in order, it may have a minimum above the maximum.
+fn grid_box(numbers: &mut Numbers, in_order: bool) -> [f64; 4] {
+    let mut bounds = || {
+        let low = (numbers.next() % 9) as f64 - 4.0;
+        let low = if low == 0.0 && numbers.next() % 2 == 0 { -0.0 } else { low };
+        let long = (numbers.next() % 4) as f64 - if in_order { 0.0 } else { 1.0 };
+        [low, low + long]
+    };
+    let ([minx, maxx], [miny, maxy]) = (bounds(), bounds());
+    [minx, maxx, miny, maxy]
+}
+
 /// Answers of both, held against each other and, where it is known, against the right one.
 #[derive(Default)]
 struct Agreement {
@@ -189,14 +201,14 @@ struct Agreement {
 
 impl Agreement {
     fn ask(&mut self, what: &str, file: &[u8], window: [f64; 4], right: Option<u64>) -> u64 {
-        let proved = proved::arcs_meeting(file, window);
+        let natharqo = natharqo::arcs_meeting(file, window);
         let plain = plain::arcs_meeting(file, window);
         self.asked += 1;
-        if proved != plain || right.is_some_and(|answer| answer != proved) {
+        if natharqo != plain || right.is_some_and(|answer| answer != plain) {
             self.differing += 1;
-            println!("DIFFER: {what}, window {window:?}: proved {proved}, plain {plain}, right {right:?}");
+            println!("DIFFER: {what}, window {window:?}: natharqo {natharqo}, plain {plain}, right {right:?}");
         }
-        proved
+        natharqo
     }
 
     /// Files of a few records, whole and damaged.
@@ -204,23 +216,13 @@ impl Agreement {
         let (file, fit) = arc_file(edition, 1000, 7);
         self.ask("small file", &file, ALL, Some(fit));
 
-        // boxes and windows on a grid, so that many share an edge or a corner only
+        // boxes and windows of which many share an edge or a corner only
         let mut numbers = Numbers(7);
-        let mut grid = |doubled: bool| {
-            let (a, b) = ((numbers.next() % 9) as f64 - 4.0, (numbers.next() % 4) as f64 - if doubled { 0.0 } else { 1.0 });
-            let zero = if a == 0.0 && numbers.next() % 2 == 0 { -0.0 } else { a };
-            [zero, a + b]
-        };
-        let mut box_of = |doubled: bool| {
-            let ([a, b], [c, d]) = (grid(doubled), grid(doubled));
-            [a, b, c, d]
-        };
-        let boxes: Vec<_> = (0..400).map(|_| box_of(false)).collect();
+        let boxes: Vec<_> = (0..400).map(|_| grid_box(&mut numbers, false)).collect();
         let on_grid = arc_file_of(edition, &boxes);
         for _ in 0..400 {
-            let window = box_of(true);
-            self.ask("grid", &on_grid, window, None);
-            self.ask("grid, window that may be out of order", &on_grid, box_of(false), None);
+            self.ask("grid", &on_grid, grid_box(&mut numbers, true), None);
+            self.ask("grid, window in any order", &on_grid, grid_box(&mut numbers, false), None);
         }
 
         // windows that are refused
@@ -315,32 +317,28 @@ fn timed(calls: usize, search: fn(&[u8], [f64; 4]) -> u64, file: &[u8], window: 
     start.elapsed().as_secs_f64() / calls as f64
 }
 
-/// The times of the proved search and of plain Rust, taken in turns.
+/// The times of both, taken in turns.
 fn measured(calls: usize, file: &[u8], window: [f64; 4]) -> (Times, Times) {
-    let (mut proved, mut plain) = (Times(Vec::new()), Times(Vec::new()));
+    let (mut natharqo, mut plain) = (Times(Vec::new()), Times(Vec::new()));
     // once each, unmeasured
-    timed(calls, proved::arcs_meeting, file, window);
+    timed(calls, natharqo::arcs_meeting, file, window);
     timed(calls, plain::arcs_meeting, file, window);
     for turn in 0..REPETITIONS {
         if turn % 2 == 0 {
-            proved.0.push(timed(calls, proved::arcs_meeting, file, window));
+            natharqo.0.push(timed(calls, natharqo::arcs_meeting, file, window));
             plain.0.push(timed(calls, plain::arcs_meeting, file, window));
         } else {
             plain.0.push(timed(calls, plain::arcs_meeting, file, window));
-            proved.0.push(timed(calls, proved::arcs_meeting, file, window));
+            natharqo.0.push(timed(calls, natharqo::arcs_meeting, file, window));
         }
     }
-    (proved, plain)
+    (natharqo, plain)
 }
 
-fn main() {
-    let mut agreement = Agreement::default();
-    for edition in EDITIONS {
-        agreement.small_files(edition);
-    }
-
-    println!("Times of one search over {RECORDS} records, in milliseconds, {REPETITIONS} repetitions each:\n");
-    println!("| edition | window | found | proved median | plain median | ratio | proved least | plain least | ratio |");
+/// One search over the whole file, by edition and window.
+fn compare(agreement: &mut Agreement) {
+    println!("Times of one search over {RECORDS} records, in milliseconds, {REPETITIONS} repetitions of each:\n");
+    println!("| edition | window | found | natharqo, median | plain, median | ratio | natharqo, least | plain, least | ratio |");
     println!("|---|---|---|---|---|---|---|---|---|");
     for edition in EDITIONS {
         let (file, fit) = arc_file(edition, RECORDS, FLAW_EVERY);
@@ -351,44 +349,55 @@ fn main() {
                 _ => Some(0),
             };
             let found = agreement.ask(edition.name, &file, window, right);
-            let (proved, plain) = measured(1, &file, window);
+            let (natharqo, plain) = measured(1, &file, window);
             println!(
-                "| {} | {name} | {found} | {:.3} | {:.3} | {:.2} | {:.3} | {:.3} | {:.2} |",
+                "| {} | {name} | {found} | {:.2} | {:.2} | {:.2} | {:.2} | {:.2} | {:.2} |",
                 edition.name,
-                1e3 * proved.median(),
+                1e3 * natharqo.median(),
                 1e3 * plain.median(),
-                proved.median() / plain.median(),
-                1e3 * proved.minimum(),
+                natharqo.median() / plain.median(),
+                1e3 * natharqo.minimum(),
                 1e3 * plain.minimum(),
-                proved.minimum() / plain.minimum(),
+                natharqo.minimum() / plain.minimum(),
             );
         }
     }
+}
 
+/// The time of a record in files of rising length.
+fn grow(agreement: &mut Agreement) {
     println!("\nHow the time grows, in nanoseconds for each record (medians):\n");
-    println!("| edition | window | records | megabytes | proved | plain | ratio |");
+    println!("| edition | window | records | megabytes | natharqo | plain | ratio |");
     println!("|---|---|---|---|---|---|---|");
     for edition in EDITIONS {
-        for (name, window) in WINDOWS {
-            for records in [10_000, 125_000, 250_000, 500_000, RECORDS] {
+        for (name, window) in WINDOWS.into_iter().filter(|(name, _)| ["1 %", "all"].contains(name)) {
+            for records in [10_000, 125_000, 250_000, 500_000, 1_000_000] {
                 let (file, _) = arc_file(edition, records, FLAW_EVERY);
                 agreement.ask(edition.name, &file, window, None);
-                // small files are searched some times over in each repetition
+                // a short file is searched some times over in each repetition
                 let calls = (125_000 / records).max(1);
-                let (proved, plain) = measured(calls, &file, window);
+                let (natharqo, plain) = measured(calls, &file, window);
                 println!(
                     "| {} | {name} | {records} | {:.1} | {:.2} | {:.2} | {:.2} |",
                     edition.name,
                     file.len() as f64 / 1e6,
-                    1e9 * proved.median() / records as f64,
+                    1e9 * natharqo.median() / records as f64,
                     1e9 * plain.median() / records as f64,
-                    proved.median() / plain.median(),
+                    natharqo.median() / plain.median(),
                 );
             }
         }
     }
+}
 
-    println!("\n{} questions asked of both, {} answered differently", agreement.asked, agreement.differing);
+fn main() {
+    let mut agreement = Agreement::default();
+    for edition in EDITIONS {
+        agreement.small_files(edition);
+    }
+    compare(&mut agreement);
+    grow(&mut agreement);
+    println!("\n{} questions asked of both, {} answered differently.", agreement.asked, agreement.differing);
     if agreement.differing != 0 {
         std::process::exit(1);
     }

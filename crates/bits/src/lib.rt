@@ -1,6 +1,16 @@
 // Single bits of the flag byte of a header and of the VFG byte of an entry.
 ghost use mathlib.Core.Path.{_≡_};
+ghost use Prim.Native.Nat.{_<_};
 ghost use Rattle.bits.specs.Bits.{bit, vfg-byte};
+
+// Whether a bit of a byte is set, by a mask of that bit alone.
+fn masked(byte: u8, k: u8) -> bool
+    requires { ⌜ k < 8 ⌝ }
+    ensures { λ r. ⌜ r ≡ bit byte k ⌝ }
+{
+    let mask = 1u8 << k;
+    byte & mask != 0
+}
 
 /// The flag byte of a file's header.
 #[derive(Clone, Copy)]
@@ -9,31 +19,31 @@ pub struct Flags {
 }
 
 impl Flags {
-    const VERIFIED: u8 = 0x01;
+    const VERIFIED: u8 = 0;
 
-    const THREE_DIMENSIONAL: u8 = 0x10;
+    const THREE_DIMENSIONAL: u8 = 4;
 
-    const EXPLICIT: u8 = 0x20;
+    const EXPLICIT: u8 = 5;
 
     /// Bit 0: the topology has been verified.
     pub fn verified(self) -> bool
         ensures { λ r. ⌜ r ≡ bit (self .byte) 0 ⌝ }
     {
-        self.byte & Self::VERIFIED != 0
+        masked(self.byte, Self::VERIFIED)
     }
 
     /// Bit 4: a PNT or ARC file has altitudes.
     pub fn three_dimensional(self) -> bool
         ensures { λ r. ⌜ r ≡ bit (self .byte) 4 ⌝ }
     {
-        self.byte & Self::THREE_DIMENSIONAL != 0
+        masked(self.byte, Self::THREE_DIMENSIONAL)
     }
 
     /// Bit 5: a POL file has explicit polygons, which use each arc once.
     pub fn explicit(self) -> bool
         ensures { λ r. ⌜ r ≡ bit (self .byte) 5 ⌝ }
     {
-        self.byte & Self::EXPLICIT != 0
+        masked(self.byte, Self::EXPLICIT)
     }
 }
 
@@ -44,19 +54,20 @@ pub struct Vfg {
 }
 
 impl Vfg {
-    const EXTERNAL: u8 = 0x01;
+    const EXTERNAL: u8 = 0;
 
-    const RING_END: u8 = 0x02;
+    const RING_END: u8 = 1;
 
-    const TURNED: u8 = 0x04;
+    const TURNED: u8 = 2;
 
     /// The byte with these three bits, and no other.
     pub fn new(external: bool, ring_end: bool, turned: bool) -> Vfg
-        ensures { λ r. ⌜ r .byte ≡ vfg-byte external «ring_end» turned ⌝ }
+        ensures byte { λ r. ⌜ r .byte ≡ vfg-byte external «ring_end» turned ⌝ }
+        ensures bits { λ r. ⌜ (bit (r .byte) 0 ≡ external) × (bit (r .byte) 1 ≡ «ring_end») × (bit (r .byte) 2 ≡ turned) ⌝ }
     {
-        let v = if external { Self::EXTERNAL } else { 0 };
-        let f = if ring_end { Self::RING_END } else { 0 };
-        let g = if turned { Self::TURNED } else { 0 };
+        let v = if external { 1u8 << Self::EXTERNAL } else { 0 };
+        let f = if ring_end { 1u8 << Self::RING_END } else { 0 };
+        let g = if turned { 1u8 << Self::TURNED } else { 0 };
         Vfg { byte: v | f | g }
     }
 
@@ -64,20 +75,20 @@ impl Vfg {
     pub fn external(self) -> bool
         ensures { λ r. ⌜ r ≡ bit (self .byte) 0 ⌝ }
     {
-        self.byte & Self::EXTERNAL != 0
+        masked(self.byte, Self::EXTERNAL)
     }
 
     /// Bit 1: the ring ends with this entry.
     pub fn ring_end(self) -> bool
         ensures { λ r. ⌜ r ≡ bit (self .byte) 1 ⌝ }
     {
-        self.byte & Self::RING_END != 0
+        masked(self.byte, Self::RING_END)
     }
 
     /// Bit 2: the entry is the arc's turned side.
     pub fn turned(self) -> bool
         ensures { λ r. ⌜ r ≡ bit (self .byte) 2 ⌝ }
     {
-        self.byte & Self::TURNED != 0
+        masked(self.byte, Self::TURNED)
     }
 }

@@ -1,0 +1,15 @@
+pub mod Occurs
+pub mod Chains
+pub mod Listing
+pub mod Ringed
+pub mod Surgery
+pub mod Members
+pub mod Links
+pub mod Closed
+pub mod Split
+pub mod Rename
+pub mod Renumber
+pub mod Island
+pub mod Means
+pub mod Walks
+pub mod Undo

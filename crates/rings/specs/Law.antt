@@ -1,0 +1,35 @@
+-- The law of a map: its rings and the turns about its nodes.
+use mathlib.Core.Path.{_≡_}
+use mathlib.Core.List.{List, [], _∷_}
+use Prim.Native.Nat.{ℕ, zero, suc, _+_, _-_, _*_, _%_, _<_, _≤_}
+use lib.Dec.{eqb, ltb}
+use Rattle.rings.specs.Circles.{one-if, occ, occs, Circles, names, rings, meets}
+
+-- the other side of the arc
+abbrev pub opp : ℕ → ℕ
+opp s = (s + 1) - 2 * (s % 2)
+
+-- the side after s in the turn about the node where s begins
+abbrev pub turn : (ℕ → ℕ) → ℕ → ℕ
+turn next s = next (opp s)
+
+-- each number below n stands once in the rings of f, and no other: f has circles there
+abbrev pub Ringed : (ℕ → ℕ) → ℕ → Type 0
+Ringed f n = (k : ℕ) → occs k (rings f n) ≡ one-if (ltb k n)
+
+-- the parts of the law, over the next side, the node where a side begins and its polygon
+abbrev pub Closes : (ℕ → ℕ) → (ℕ → ℕ) → ℕ → Type 0
+Closes next node n = (s : ℕ) → s < n → node (turn next s) ≡ node s
+
+abbrev pub Bounds : (ℕ → ℕ) → (ℕ → ℕ) → ℕ → Type 0
+Bounds next pol n = (s : ℕ) → s < n → pol (next s) ≡ pol s
+
+-- each node has one turn, and what is no node has none
+abbrev pub Noded : (ℕ → ℕ) → (ℕ → ℕ) → ℕ → ℕ → Type 0
+Noded next node n nodes = (v : ℕ) → occ v (names node (rings (turn next) n)) ≡ one-if (ltb v nodes)
+
+-- the sides come in pairs; each side stands in one ring, once, and in one turn, once; the rings close; a ring has one
+-- polygon; each node has one turn
+abbrev pub Law : (ℕ → ℕ) → (ℕ → ℕ) → (ℕ → ℕ) → ℕ → ℕ → Type 0
+Law next node pol n nodes =
+    (n % 2 ≡ 0) × Ringed next n × Ringed (turn next) n × Closes next node n × Bounds next pol n × Noded next node n nodes
