@@ -10,6 +10,7 @@ pub mod Split
 pub mod Rename
 pub mod Renumber
 pub mod Island
-pub mod Means
+pub mod Words
 pub mod Walks
 pub mod Undo
+pub mod Opposites

@@ -1,0 +1,4 @@
+pub mod Rows
+pub mod MapLaw
+pub mod States
+pub mod Questions

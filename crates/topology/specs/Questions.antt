@@ -1,0 +1,44 @@
+-- What each question answers, for every map and every argument.
+use mathlib.Core.Bool.{cond}
+use mathlib.Core.List.{List}
+use Prim.Native.Nat.{ℕ, _+_, _-_, _/_, _<_}
+use lib.Dec.{leb, ltb}
+use lib.ListN.{length, getD}
+use Rattle.std.specs.declared.result.Result.{Result}
+use Rattle.std.specs.declared.result.Result.the-variants.{Ok, Err}
+use Rattle.refusal.specs.declared.Refusal.{Refusal}
+use Rattle.refusal.specs.declared.Refusal.the-variants.{NoSuchElement}
+use Rattle.topology.specs.declared.side.Side.{Side}
+use Rattle.topology.specs.declared.vertex.Vertex.{Vertex}
+use Rattle.topology.specs.Rows.{no-side, no-vertex, next-of, node-of, polygon-of, row-of}
+use Rattle.topology.specs.States.{State}
+
+abbrev pub arc-count : State → ℕ
+arc-count m = length (m .sides) / 2
+
+abbrev pub side-row : State → ℕ → Result Side Refusal
+side-row m s = cond (ltb s (length (m .sides))) (Ok (getD (m .sides) s no-side)) (Err NoSuchElement)
+
+-- an answer about a side, where there is one
+abbrev pub about-side : (List Side → ℕ → ℕ) → State → ℕ → Result ℕ Refusal
+about-side f m s = cond (ltb s (length (m .sides))) (Ok (f (m .sides) s)) (Err NoSuchElement)
+
+-- the rows of the first and of the last vertex of arc a, where there is one
+abbrev pub arc-rows : State → ℕ → Result (ℕ × ℕ) Refusal
+arc-rows m a = cond (ltb a (arc-count m)) (Ok (row-of (m .sides) (a + a), row-of (m .sides) (a + a + 1))) (Err NoSuchElement)
+
+-- how many vertices lie on the rows from one to another
+abbrev pub counted : Result (ℕ × ℕ) Refusal → Result ℕ Refusal
+counted (Ok (first, last)) = Ok (last - first + 1)
+counted (Err e) = Err e
+
+abbrev pub vertex-count : State → ℕ → Result ℕ Refusal
+vertex-count m a = counted (arc-rows m a)
+
+abbrev pub picked : List Vertex → ℕ → Result (ℕ × ℕ) Refusal → Result Vertex Refusal
+picked vs k (Ok (first, last)) = cond (leb k (last - first)) (Ok (getD vs (first + k) no-vertex)) (Err NoSuchElement)
+picked vs k (Err e) = Err e
+
+-- vertex k of arc a
+abbrev pub vertex-at : State → ℕ → ℕ → Result Vertex Refusal
+vertex-at m a k = picked (m .vertices) k (arc-rows m a)

@@ -1,0 +1,6 @@
+/// The side of an arc where an unturned side's polygon lies.
+#[derive(Clone, Copy)]
+pub enum Hand {
+    Right,
+    Left,
+}

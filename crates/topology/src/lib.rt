@@ -1,0 +1,8 @@
+// A map of arcs, nodes, rings and polygons, whose type carries its law.
+pub mod hand;
+pub mod map;
+pub mod questions;
+pub mod side;
+pub mod starts;
+pub mod table;
+pub mod vertex;
