@@ -14,3 +14,4 @@ pub mod Words
 pub mod Walks
 pub mod Undo
 pub mod Opposites
+pub mod Lows

@@ -1,5 +1,6 @@
 -- The law of a map: its rings and the turns about its nodes.
 use mathlib.Core.Path.{_≡_}
+use mathlib.Core.Bool.{_&&_}
 use mathlib.Core.List.{List, [], _∷_}
 use Prim.Native.Nat.{ℕ, zero, suc, _+_, _-_, _*_, _%_, _<_, _≤_}
 use lib.Dec.{eqb, ltb}
@@ -33,3 +34,13 @@ Noded next node n nodes = (v : ℕ) → occ v (names node (rings (turn next) n))
 abbrev pub Law : (ℕ → ℕ) → (ℕ → ℕ) → (ℕ → ℕ) → ℕ → ℕ → Type 0
 Law next node pol n nodes =
     (n % 2 ≡ 0) × Ringed next n × Ringed (turn next) n × Closes next node n × Bounds next pol n × Noded next node n nodes
+
+-- low tells the lowest member of each circle: one number along the circle, at most each member, and named by that one circle
+abbrev pub LowAlong : (ℕ → ℕ) → (ℕ → ℕ) → ℕ → Type 0
+LowAlong next low n = Bounds next low n
+
+abbrev pub LowBelow : (ℕ → ℕ) → ℕ → Type 0
+LowBelow low n = (s : ℕ) → s < n → low s ≤ s
+
+abbrev pub LowNames : (ℕ → ℕ) → (ℕ → ℕ) → ℕ → Type 0
+LowNames next low n = (v : ℕ) → occ v (names low (rings next n)) ≡ one-if (ltb v n && eqb (low v) v)

@@ -1,2 +1,3 @@
 pub mod InUse
 pub mod ArcRows
+pub mod Lowest

@@ -8,6 +8,7 @@ use Rattle.std.specs.declared.result.Result.{Result}
 use Rattle.std.specs.declared.result.Result.the-variants.{Ok, Err}
 use Rattle.refusal.specs.declared.Refusal.{Refusal}
 use Rattle.refusal.specs.declared.Refusal.the-variants.{NoSuchElement}
+use Rattle.rings.specs.Circles.{rings, starts}
 use Rattle.topology.specs.declared.side.Side.{Side}
 use Rattle.topology.specs.declared.vertex.Vertex.{Vertex}
 use Rattle.topology.specs.Rows.{no-side, no-vertex, next-of, node-of, polygon-of, row-of}
@@ -42,3 +43,14 @@ picked vs k (Err e) = Err e
 -- vertex k of arc a
 abbrev pub vertex-at : State → ℕ → ℕ → Result Vertex Refusal
 vertex-at m a k = picked (m .vertices) k (arc-rows m a)
+
+-- the rings, rising by lowest side and started there
+abbrev pub rings-of : State → List (List ℕ)
+rings-of m = rings (next-of (m .sides)) (length (m .sides))
+
+-- the polygon and the lowest side of the k-th ring
+abbrev pub ring-at : State → ℕ → Result (ℕ × ℕ) Refusal
+ring-at m k =
+    cond (ltb k (length (rings-of m)))
+    (Ok (polygon-of (m .sides) (getD (starts (rings-of m)) k 0), getD (starts (rings-of m)) k 0))
+    (Err NoSuchElement)

@@ -2,6 +2,7 @@
 use mathlib.Core.Bool.{Bool, _&&_}
 use mathlib.Core.List.{List}
 use Prim.Native.Nat.{ℕ}
+use lib.Dec.{eqb}
 use lib.ListN.{getD}
 use lib.Ieee.{eq, nan}
 use Rattle.std.specs.Floats.{finite}
@@ -45,3 +46,7 @@ same-place v w = eq (v .x) (w .x) && eq (v .y) (w .y)
 -- the vertex where s begins
 abbrev pub start-of : List Side → List Vertex → ℕ → Vertex
 start-of us vs s = getD vs (row-of us s) no-vertex
+
+-- whether s is the lowest side of its ring
+abbrev pub tells : List Side → ℕ → Bool
+tells us s = eqb (low-of us s) s

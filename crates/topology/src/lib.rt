@@ -6,3 +6,4 @@ pub mod side;
 pub mod starts;
 pub mod table;
 pub mod vertex;
+mod walks;

@@ -3,13 +3,15 @@ ghost use Prim.Native.Nat.{ℕ, _+_, _-_, _/_, _<_, _≤_};
 ghost use lib.ListN.{length};
 ghost use Rattle.topology.specs.Rows.{next-of, node-of, polygon-of};
 ghost use Rattle.topology.specs.States.{state-of};
-ghost use Rattle.topology.specs.Questions.{arc-count, side-row, about-side, arc-rows, vertex-count, vertex-at};
+ghost use Rattle.topology.specs.Questions.{arc-count, side-row, about-side, arc-rows, vertex-count, vertex-at, rings-of, ring-at};
 ghost use Rattle.std.specs.Vec.{made};
 
 use super::hand::Hand;
 use super::map::Map;
 use super::side::Side;
 use super::vertex::Vertex;
+use super::walks::count_starts;
+use super::walks::find_start;
 use refusal::Refusal;
 
 impl<'a> Map<'a> {
@@ -105,5 +107,22 @@ impl<'a> Map<'a> {
             return Err(Refusal::NoSuchElement);
         }
         Ok(self.vertices.rows[first + k])
+    }
+
+    /// How many rings there are.
+    pub fn ring_count(&self) -> usize
+        ensures { λ r. ⌜ r ≡ length (rings-of (state-of (now (self .entry)))) ⌝ }
+    {
+        count_starts(self.sides.rows, self.sides.used)
+    }
+
+    /// The polygon and the lowest side of the k-th ring; rings rise by lowest side. 20 when there are not so many.
+    pub fn ring(&self, k: usize) -> Result<(usize, usize), Refusal>
+        ensures { λ r. ⌜ r ≡ ring-at (state-of (now (self .entry))) k ⌝ }
+    {
+        let Some(s) = find_start(self.sides.rows, self.sides.used, k) else {
+            return Err(Refusal::NoSuchElement);
+        };
+        Ok((self.sides.rows[s].polygon as usize, s))
     }
 }
