@@ -5,5 +5,6 @@ pub mod questions;
 pub mod side;
 pub mod starts;
 pub mod table;
+mod tables;
 pub mod vertex;
 mod walks;
