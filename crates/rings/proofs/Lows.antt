@@ -39,12 +39,12 @@ pub kept-occ : (P : ℕ → Bool) (n v : ℕ) → occ v (kept P n) ≡ one-if (l
 kept-occ P zero v = sym (ap one-if (and-left (ltb v 0) (P v) (le-ltb v 0 (omega arith))))
 kept-occ P (suc k) v =
     occ-append v (kept P k) (cond (P k) (k ∷ []) []) ∙
-    elim (cases-eq v k)
-    [ inl e ↦ subst (λ (u : ℕ). occ u (kept P k) + occ u (cond (P k) (k ∷ []) []) ≡ one-if (ltb u (suc k) && P u)) (sym e) (kept-here P k (kept-occ P k k))
-    | inr ne ↦
-        let z = none-kept v k (P k) ne in
-        let y : occ v (kept P k) + occ v (cond (P k) (k ∷ []) []) ≡ occ v (kept P k) = omega arith in
-        y ∙ kept-occ P k v ∙ ap (λ t. one-if (t && P v)) (below-same v k ne)
+    elim (cases-eq v k) [
+      | inl e ↦ subst (λ (u : ℕ). occ u (kept P k) + occ u (cond (P k) (k ∷ []) []) ≡ one-if (ltb u (suc k) && P u)) (sym e) (kept-here P k (kept-occ P k k))
+      | inr ne ↦
+          let z = none-kept v k (P k) ne in
+          let y : occ v (kept P k) + occ v (cond (P k) (k ∷ []) []) ≡ occ v (kept P k) = omega arith in
+          y ∙ kept-occ P k v ∙ ap (λ t. one-if (t && P v)) (below-same v k ne)
     ]
 
 -- ---- rising lists
@@ -64,14 +64,14 @@ up-one b d [] (y ∷ ys) u v h = absurd (omega (arith, h y, one-same y))
 up-one b d (x ∷ xs) [] u v h = absurd (omega (arith, h x, one-same x))
 up-one b d (x ∷ xs) (y ∷ ys) u v h =
     let e : x ≡ y =
-        elim (cases-lt x y)
-        [ inl l ↦ absurd (omega (arith, h x, one-same x, one-other x y (omega arith), up-none (suc y) x ys (v .1) (omega arith)))
-        | inr g ↦
-            elim (cases-eq x y)
-            [ inl q ↦ q
+    elim (cases-lt x y) [
+      | inl l ↦ absurd (omega (arith, h x, one-same x, one-other x y (omega arith), up-none (suc y) x ys (v .1) (omega arith)))
+      | inr g ↦
+          elim (cases-eq x y) [
+            | inl q ↦ q
             | inr ne ↦ absurd (omega (arith, h y, one-same y, one-other y x (λ q. ne (sym q)), up-none (suc x) y xs (u .1) (omega arith)))
-            ]
-        ]
+          ]
+    ]
     in
     let t = up-one (suc x) (suc y) xs ys (u .1) (v .1) (λ k. omega (arith, h k, ap (λ (z : ℕ). one-if (eqb k z)) e)) in
     ap (λ (z : ℕ). z ∷ xs) e ∙ ap (λ (zs : List ℕ). y ∷ zs) t
@@ -97,16 +97,18 @@ starts-up b (c ∷ cs) r = (r .0, starts-up (suc (first c)) cs (r .1))
 pub kept-at : (P : ℕ → Bool) (n s : ℕ) → s < n → P s ≡ true → (getD (kept P n) (length (kept P s)) 0 ≡ s) × (length (kept P s) < length (kept P n))
 kept-at P zero s l h = absurd (omega arith)
 kept-at P (suc k) s l h =
-    elim (cases-eq s k)
-    [ inl e ↦
-        let m : P k ≡ true = ap P (sym e) ∙ h in
-        let x : kept P (suc k) ≡ kept P k ++ (k ∷ []) = ap (λ t. kept P k ++ cond t (k ∷ []) []) m in
-        (rw (x, e) (getD-append-right (kept P k) (k ∷ []) (length (kept P k)) (length (kept P k)) 0 refl (omega arith) ∙ z (length (kept P k))),
-         rw (x, e) (omega (arith, length-append (kept P k) (k ∷ []))))
-    | inr ne ↦
-        let r = kept-at P k s (omega arith) h in
-        (getD-append-left (kept P k) (cond (P k) (k ∷ []) []) 0 (length (kept P s)) (r .1) ∙ r .0,
-         omega (arith, r .1, length-append (kept P k) (cond (P k) (k ∷ []) [])))
+    elim (cases-eq s k) [
+      | inl e ↦
+          let m : P k ≡ true = ap P (sym e) ∙ h in
+          let x : kept P (suc k) ≡ kept P k ++ (k ∷ []) = ap (λ t. kept P k ++ cond t (k ∷ []) []) m in (
+            rw (x, e) (getD-append-right (kept P k) (k ∷ []) (length (kept P k)) (length (kept P k)) 0 refl (omega arith) ∙ z (length (kept P k))),
+            rw (x, e) (omega (arith, length-append (kept P k) (k ∷ []))),
+          )
+      | inr ne ↦
+          let r = kept-at P k s (omega arith) h in (
+            getD-append-left (kept P k) (cond (P k) (k ∷ []) []) 0 (length (kept P s)) (r .1) ∙ r .0,
+            omega (arith, r .1, length-append (kept P k) (cond (P k) (k ∷ []) [])),
+          )
     ]
   where
     z : (m : ℕ) → getD (k ∷ []) (m - m) 0 ≡ k
@@ -126,11 +128,11 @@ module _ (f low : ℕ → ℕ) (n : ℕ) (r : Ringed f n) (along : LowAlong f lo
       let (p, q) = and-parts (ltb v n) (eqb (low v) v) t in
       let lv : v < n = ltb-true v n p in
       let ev : low v ≡ v = eqb-true (low v) v q in
-      elim (cases-eq a v)
-      [ inl e ↦ sym e
-      | inr ne ↦
-          let m = same-circle f low n (rings f n) (ringed-circles f n r) along most a v la lv (sym ev) ne in
-          omega (arith, below a la, lowest v (ltb-true 0 (occ v (ring f n a)) m))
+      elim (cases-eq a v) [
+        | inl e ↦ sym e
+        | inr ne ↦
+            let m = same-circle f low n (rings f n) (ringed-circles f n r) along most a v la lv (sym ev) ne in
+            omega (arith, below a la, lowest v (ltb-true 0 (occ v (ring f n a)) m))
       ]
     where
       one-true : (t : Bool) → 0 < one-if t → t ≡ true

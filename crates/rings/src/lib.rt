@@ -17,5 +17,4 @@ pub fn opposite(side: u32) -> u32
 pub fn rings_stand()
     ensures listed { λ _. ⌜ RingsListed ⌝ }
     ensures count { λ _. ⌜ SameCount ⌝ }
-{
-}
+{}

@@ -30,22 +30,24 @@ pub field-two : (F : Side → ℕ) (us : List Side) (a b : Side) → field F (us
 field-two F us a b =
     fun-ext
     (λ k.
-        elim (cases-eq k (suc n))
-        [ inl e ↦ ap (field F xs) e ∙ (at-second F us a b ∙ sym (ap (put (put (field F us) n (F a)) (suc n) (F b)) e ∙ put-same (put (field F us) n (F a)) (suc n) (F b)))
-        | inr ns ↦
-            elim (cases-eq k n)
-            [ inl e ↦
+    elim (cases-eq k (suc n)) [
+      | inl e ↦ ap (field F xs) e ∙ (at-second F us a b ∙ sym (ap (put (put (field F us) n (F a)) (suc n) (F b)) e ∙ put-same (put (field F us) n (F a)) (suc n) (F b)))
+      | inr ns ↦
+          elim (cases-eq k n) [
+            | inl e ↦
                 ap (field F xs) e ∙ (at-first F us a b
                 ∙ sym (put-other (put (field F us) n (F a)) (suc n) (F b) k ns ∙ (ap (put (field F us) n (F a)) e ∙ put-same (field F us) n (F a))))
             | inr ne ↦
                 rest k (cases-lt k n) ne ns ∙ sym (put-other (put (field F us) n (F a)) (suc n) (F b) k ns ∙ put-other (field F us) n (F a) k ne)
-            ]
-        ])
+          ]
+    ])
   where
     n : ℕ
     n = length us
+
     xs : List Side
     xs = us ++ a ∷ b ∷ []
+
     rest : (k : ℕ) → (k < length us) ⊎ (length us ≤ k) → (k ≡ length us → ⊥) → (k ≡ suc (length us) → ⊥) → field F (us ++ a ∷ b ∷ []) k ≡ field F us k
     rest k (inl l) ne ns = ap F (getD-append-left us (a ∷ b ∷ []) no-side k l)
     rest k (inr g) ne ns =

@@ -35,16 +35,16 @@ good-at (v ∷ vs) h (suc i) l = good-at vs (and-parts (good v) (all-good vs) h 
 -- the start of each side is in use
 row-low : (us : List Side) (vs : List Vertex) (n s : ℕ) → n % 2 ≡ 0 → RunsStand us vs n → s < n → row-of us s < length vs
 row-low us vs n s even stand l =
-    elim (cases-eq (s % 2) 0)
-    [ inl e ↦
-        let (a, q) = half s e in
-        let r = stand a (omega arith) in
-        subst (λ (k : ℕ). row-of us k < length vs) q (omega (arith, r .0, r .1))
-    | inr ne ↦
-        let (a, q) = half (s - 1) (omega arith) in
-        let r = stand a (omega arith) in
-        let e : a + a + 1 ≡ s = omega arith in
-        subst (λ (k : ℕ). row-of us k < length vs) e (r .1)
+    elim (cases-eq (s % 2) 0) [
+      | inl e ↦
+          let (a, q) = half s e in
+          let r = stand a (omega arith) in
+          subst (λ (k : ℕ). row-of us k < length vs) q (omega (arith, r .0, r .1))
+      | inr ne ↦
+          let (a, q) = half (s - 1) (omega arith) in
+          let r = stand a (omega arith) in
+          let e : a + a + 1 ≡ s = omega arith in
+          subst (λ (k : ℕ). row-of us k < length vs) e (r .1)
     ]
   where
     half : (k : ℕ) → k % 2 ≡ 0 → (a : ℕ) × (a + a ≡ k)
@@ -103,32 +103,32 @@ module _ (us : List Side) (vs run : List Vertex) (nodes polygons p : ℕ) (L : L
 
   polygons-known′ : (s : ℕ) → s < n + 2 → island-polygon (polygon-of us) n polygons p s < polygons + 1
   polygons-known′ s l =
-      elim (which s l)
-      [ inl o ↦ omega (arith, label-old (polygon-of us) n polygons p s o, L .polygons-known s o)
-      | inr w ↦
-          elim w
-          [ inl e ↦ omega (arith, ap (island-polygon (polygon-of us) n polygons p) e, label-n (polygon-of us) n polygons p)
-          | inr e ↦ omega (arith, ap (island-polygon (polygon-of us) n polygons p) e, label-top (polygon-of us) n polygons p)
-          ]
+      elim (which s l) [
+        | inl o ↦ omega (arith, label-old (polygon-of us) n polygons p s o, L .polygons-known s o)
+        | inr w ↦
+            elim w [
+              | inl e ↦ omega (arith, ap (island-polygon (polygon-of us) n polygons p) e, label-n (polygon-of us) n polygons p)
+              | inr e ↦ omega (arith, ap (island-polygon (polygon-of us) n polygons p) e, label-top (polygon-of us) n polygons p)
+            ]
       ]
 
   polygons-have-rings′ : (q : ℕ) → 0 < q → q < polygons + 1 → 0 < occ q (names (island-polygon (polygon-of us) n polygons p) (rings (island-next (next-of us) n) (n + 2)))
   polygons-have-rings′ q h l =
       let e = island-names (next-of us) (polygon-of us) n polygons p (L .in-rings) (L .one-polygon) q in
-      elim (cases-eq q polygons)
-      [ inl i ↦ omega (arith, e, ap one-if (eq-eqb q polygons i))
-      | inr ne ↦ omega (arith, e, L .polygons-have-rings q h (omega arith))
+      elim (cases-eq q polygons) [
+        | inl i ↦ omega (arith, e, ap one-if (eq-eqb q polygons i))
+        | inr ne ↦ omega (arith, e, L .polygons-have-rings q h (omega arith))
       ]
 
   low-below′ : (s : ℕ) → s < n + 2 → island-polygon (low-of us) n n (suc n) s ≤ s
   low-below′ s l =
-      elim (which s l)
-      [ inl o ↦ omega (arith, label-old (low-of us) n n (suc n) s o, L .low-below s o)
-      | inr w ↦
-          elim w
-          [ inl e ↦ omega (arith, ap (island-polygon (low-of us) n n (suc n)) e, label-n (low-of us) n n (suc n))
-          | inr e ↦ omega (arith, ap (island-polygon (low-of us) n n (suc n)) e, label-top (low-of us) n n (suc n))
-          ]
+      elim (which s l) [
+        | inl o ↦ omega (arith, label-old (low-of us) n n (suc n) s o, L .low-below s o)
+        | inr w ↦
+            elim w [
+              | inl e ↦ omega (arith, ap (island-polygon (low-of us) n n (suc n)) e, label-n (low-of us) n n (suc n))
+              | inr e ↦ omega (arith, ap (island-polygon (low-of us) n n (suc n)) e, label-top (low-of us) n n (suc n))
+            ]
       ]
 
   abbrev low′ : ℕ → ℕ
@@ -137,30 +137,31 @@ module _ (us : List Side) (vs run : List Vertex) (nodes polygons p : ℕ) (L : L
   -- what the test for a lowest side says of each side, old or new
   low-test : (v : ℕ) → one-if (eqb v (suc n)) + (one-if (eqb v n) + one-if (ltb v n && eqb (low-of us v) v)) ≡ one-if (ltb v (n + 2) && eqb (low′ v) v)
   low-test v =
-      elim (cases-lt v (n + 2))
-      [ inl l ↦
-          elim (which v l)
-          [ inl o ↦
-              ap (λ t. t + (one-if (eqb v n) + one-if (ltb v n && eqb (low-of us v) v))) (one-other v (suc n) (omega arith))
-              ∙ ap (λ t. 0 + (t + one-if (ltb v n && eqb (low-of us v) v))) (one-other v n (omega arith))
-              ∙ rw (lt-ltb v n o, lt-ltb v (n + 2) l, label-old (low-of us) n n (suc n) v o) (omega arith)
-          | inr w ↦
-              elim w
-              [ inl e ↦
-                  rw e (new n (one-other n (suc n) (omega arith)) (one-same n) (le-ltb n n (omega arith)) (lt-ltb n (n + 2) (omega arith)) (label-n (low-of us) n n (suc n)))
-              | inr e ↦
-                  rw e (last (suc n) (one-same (suc n)) (one-other (suc n) n (omega arith)) (le-ltb (suc n) n (omega arith)) (lt-ltb (suc n) (n + 2) (omega arith)) (label-top (low-of us) n n (suc n)))
-              ]
-          ]
-      | inr g ↦
-          ap (λ t. t + (one-if (eqb v n) + one-if (ltb v n && eqb (low-of us v) v))) (one-other v (suc n) (omega arith))
-          ∙ ap (λ t. 0 + (t + one-if (ltb v n && eqb (low-of us v) v))) (one-other v n (omega arith))
-          ∙ rw (le-ltb v n (omega arith), le-ltb v (n + 2) g) refl
+      elim (cases-lt v (n + 2)) [
+        | inl l ↦
+            elim (which v l) [
+              | inl o ↦
+                  ap (λ t. t + (one-if (eqb v n) + one-if (ltb v n && eqb (low-of us v) v))) (one-other v (suc n) (omega arith))
+                  ∙ ap (λ t. 0 + (t + one-if (ltb v n && eqb (low-of us v) v))) (one-other v n (omega arith))
+                  ∙ rw (lt-ltb v n o, lt-ltb v (n + 2) l, label-old (low-of us) n n (suc n) v o) (omega arith)
+              | inr w ↦
+                  elim w [
+                    | inl e ↦
+                        rw e (new n (one-other n (suc n) (omega arith)) (one-same n) (le-ltb n n (omega arith)) (lt-ltb n (n + 2) (omega arith)) (label-n (low-of us) n n (suc n)))
+                    | inr e ↦
+                        rw e (last (suc n) (one-same (suc n)) (one-other (suc n) n (omega arith)) (le-ltb (suc n) n (omega arith)) (lt-ltb (suc n) (n + 2) (omega arith)) (label-top (low-of us) n n (suc n)))
+                  ]
+            ]
+        | inr g ↦
+            ap (λ t. t + (one-if (eqb v n) + one-if (ltb v n && eqb (low-of us v) v))) (one-other v (suc n) (omega arith))
+            ∙ ap (λ t. 0 + (t + one-if (ltb v n && eqb (low-of us v) v))) (one-other v n (omega arith))
+            ∙ rw (le-ltb v n (omega arith), le-ltb v (n + 2) g) refl
       ]
     where
       new : (u : ℕ) → one-if (eqb u (suc n)) ≡ 0 → one-if (eqb u n) ≡ 1 → ltb u n ≡ false → ltb u (n + 2) ≡ true → low′ u ≡ u
           → one-if (eqb u (suc n)) + (one-if (eqb u n) + one-if (ltb u n && eqb (low-of us u) u)) ≡ one-if (ltb u (n + 2) && eqb (low′ u) u)
       new u x y z w e = rw (x, y, z, w, eq-eqb (low′ u) u e) refl
+
       last : (u : ℕ) → one-if (eqb u (suc n)) ≡ 1 → one-if (eqb u n) ≡ 0 → ltb u n ≡ false → ltb u (n + 2) ≡ true → low′ u ≡ u
           → one-if (eqb u (suc n)) + (one-if (eqb u n) + one-if (ltb u n && eqb (low-of us u) u)) ≡ one-if (ltb u (n + 2) && eqb (low′ u) u)
       last u x y z w e = rw (x, y, z, w, eq-eqb (low′ u) u e) refl
@@ -198,11 +199,6 @@ module _ (us : List Side) (vs run : List Vertex) (nodes polygons p : ℕ) (L : L
   old-node : (s : ℕ) → s < n → node′ s < nodes
   old-node s l = omega (arith, node-old (node-of us) n nodes s l, node-low (next-of us) (node-of us) n nodes (L .in-turns) (L .rings-close) (L .one-turn) s l)
 
-  -- a new side begins at the new node, and at the place of the run's first vertex
-  New : ℕ → Type 0
-  New s = (node′ s ≡ nodes) × (same-place (getD run 0 no-vertex) (getD vs′ (row′ s) no-vertex) ≡ true) × (same-place (getD vs′ (row′ s) no-vertex) (getD run 0 no-vertex) ≡ true)
-      × ((t : ℕ) → (t ≡ n) ⊎ (t ≡ suc n) → same-place (getD vs′ (row′ s) no-vertex) (getD vs′ (row′ t) no-vertex) ≡ true)
-
   abbrev v0 : Vertex
   v0 = getD run 0 no-vertex
 
@@ -227,80 +223,81 @@ module _ (us : List Side) (vs run : List Vertex) (nodes polygons p : ℕ) (L : L
 
   ends-together′ : (s t : ℕ) → ((s < n + 2) × (t < n + 2) × (node′ s ≡ node′ t)) → same-place (getD vs′ (row′ s) no-vertex) (getD vs′ (row′ t) no-vertex) ≡ true
   ends-together′ s t (ls, lt′, e) =
-      elim (which s ls)
-      [ inl os ↦
-          elim (which t lt′)
-          [ inl ot ↦
-              rw (start-old s os, start-old t ot)
-              (L .ends-together s t (os, ot, sym (node-old (node-of us) n nodes s os) ∙ (e ∙ node-old (node-of us) n nodes t ot)))
-          | inr nt ↦ absurd (omega (arith, old-node s os, node-new t nt))
-          ]
-      | inr ns ↦
-          elim (which t lt′)
-          [ inl ot ↦ absurd (omega (arith, old-node t ot, node-new s ns))
-          | inr nt ↦ both-new s t ns nt
-          ]
+      elim (which s ls) [
+        | inl os ↦
+            elim (which t lt′) [
+              | inl ot ↦
+                  rw (start-old s os, start-old t ot)
+                  (L .ends-together s t (os, ot, sym (node-old (node-of us) n nodes s os) ∙ (e ∙ node-old (node-of us) n nodes t ot)))
+              | inr nt ↦ absurd (omega (arith, old-node s os, node-new t nt))
+            ]
+        | inr ns ↦
+            elim (which t lt′) [
+              | inl ot ↦ absurd (omega (arith, old-node t ot, node-new s ns))
+              | inr nt ↦ both-new s t ns nt
+            ]
       ]
 
   all-finite′ : AllFinite vs′
   all-finite′ i l =
-      elim (cases-lt i (length vs))
-      [ inl o ↦ rw (old-vertex i o) (L .all-finite i o)
-      | inr g ↦
-          let e : i ≡ length vs + (i - length vs) = omega arith in
-          rw (e, new-vertex (i - length vs)) (good-at run goods (i - length vs) (omega (arith, long′)))
+      elim (cases-lt i (length vs)) [
+        | inl o ↦ rw (old-vertex i o) (L .all-finite i o)
+        | inr g ↦
+            let e : i ≡ length vs + (i - length vs) = omega arith in
+            rw (e, new-vertex (i - length vs)) (good-at run goods (i - length vs) (omega (arith, long′)))
       ]
 
   runs-stand′ : (k : ℕ) → k + k + 1 < n + 2 → (row′ (k + k) < row′ (k + k + 1)) × (row′ (k + k + 1) < length vs′)
   runs-stand′ k l =
-      elim (cases-lt (k + k + 1) n)
-      [ inl o ↦
-          let r = L .runs-stand k o in
-          let x = label-old (row-of us) n (length vs) (length vs + (length run - 1)) (k + k) (omega arith) in
-          let y = label-old (row-of us) n (length vs) (length vs + (length run - 1)) (k + k + 1) o in
-          (omega (arith, r .0, x, y), omega (arith, r .1, y, long′))
-      | inr g ↦
-          let d : k + k ≡ n = omega (arith, L .paired) in
-          let e : k + k + 1 ≡ suc n = omega arith in
-          let x = ap row′ d ∙ label-n (row-of us) n (length vs) (length vs + (length run - 1)) in
-          let y = ap row′ e ∙ label-top (row-of us) n (length vs) (length vs + (length run - 1)) in
-          (omega (arith, x, y, four), omega (arith, y, long′, four))
+      elim (cases-lt (k + k + 1) n) [
+        | inl o ↦
+            let r = L .runs-stand k o in
+            let x = label-old (row-of us) n (length vs) (length vs + (length run - 1)) (k + k) (omega arith) in
+            let y = label-old (row-of us) n (length vs) (length vs + (length run - 1)) (k + k + 1) o in
+            (omega (arith, r .0, x, y), omega (arith, r .1, y, long′))
+        | inr g ↦
+            let d : k + k ≡ n = omega (arith, L .paired) in
+            let e : k + k + 1 ≡ suc n = omega arith in
+            let x = ap row′ d ∙ label-n (row-of us) n (length vs) (length vs + (length run - 1)) in
+            let y = ap row′ e ∙ label-top (row-of us) n (length vs) (length vs + (length run - 1)) in
+            (omega (arith, x, y, four), omega (arith, y, long′, four))
       ]
 
   pub island-lawful : Lawful us′ vs′ (n + 2) (nodes + 1) (polygons + 1)
-  island-lawful = record
-      { paired = omega (arith, L .paired)
-      ; polygon-zero = omega arith
-      ; polygons-few = omega (arith, L .polygons-few)
-      ; nodes-few = omega (arith, L .nodes-few)
-      ; in-rings = subst (λ (g : ℕ → ℕ). Ringed g (n + 2)) (sym next-is) (K .ringed)
-      ; in-turns = subst (λ (g : ℕ → ℕ). Ringed (turn g) (n + 2)) (sym next-is) (K .turned)
-      ; rings-close =
-          subst (λ (g : ℕ → ℕ). Closes g (node-of us′) (n + 2)) (sym next-is)
-          (subst (λ (h : ℕ → ℕ). Closes (island-next (next-of us) n) h (n + 2)) (sym node-is) (K .closes))
-      ; one-polygon =
-          subst (λ (g : ℕ → ℕ). Bounds g (polygon-of us′) (n + 2)) (sym next-is)
-          (subst (λ (h : ℕ → ℕ). Bounds (island-next (next-of us) n) h (n + 2)) (sym polygon-is) (K .bounds))
-      ; one-turn =
-          subst (λ (g : ℕ → ℕ). Noded g (node-of us′) (n + 2) (nodes + 1)) (sym next-is)
-          (subst (λ (h : ℕ → ℕ). Noded (island-next (next-of us) n) h (n + 2) (nodes + 1)) (sym node-is) (K .noded))
-      ; polygons-known = subst (λ (h : ℕ → ℕ). (s : ℕ) → s < n + 2 → h s < polygons + 1) (sym polygon-is) polygons-known′
-      ; polygons-have-rings =
-          subst (λ (g : ℕ → ℕ). (q : ℕ) → 0 < q → q < polygons + 1 → 0 < occ q (names (polygon-of us′) (rings g (n + 2)))) (sym next-is)
-          (subst (λ (h : ℕ → ℕ). (q : ℕ) → 0 < q → q < polygons + 1 → 0 < occ q (names h (rings (island-next (next-of us) n) (n + 2)))) (sym polygon-is) polygons-have-rings′)
-      ; ends-together =
-          subst (λ (h : ℕ → ℕ). (s t : ℕ) → ((s < n + 2) × (t < n + 2) × (h s ≡ h t)) → same-place (start-of us′ vs′ s) (start-of us′ vs′ t) ≡ true) (sym node-is)
-          (subst (λ (w : ℕ → ℕ). (s t : ℕ) → ((s < n + 2) × (t < n + 2) × (node′ s ≡ node′ t)) → same-place (getD vs′ (w s) no-vertex) (getD vs′ (w t) no-vertex) ≡ true) (sym row-is) ends-together′)
-      ; all-finite = all-finite′
-      ; runs-stand = subst (λ (w : ℕ → ℕ). (k : ℕ) → k + k + 1 < n + 2 → (w (k + k) < w (k + k + 1)) × (w (k + k + 1) < length vs′)) (sym row-is) runs-stand′
-      ; low-along =
-          subst (λ (g : ℕ → ℕ). Bounds g (low-of us′) (n + 2)) (sym next-is)
-          (subst (λ (h : ℕ → ℕ). Bounds (island-next (next-of us) n) h (n + 2)) (sym low-is) (J .bounds))
-      ; low-below = subst (λ (h : ℕ → ℕ). (s : ℕ) → s < n + 2 → h s ≤ s) (sym low-is) low-below′
-      ; low-names =
-          subst (λ (g : ℕ → ℕ). (v : ℕ) → occ v (names (low-of us′) (rings g (n + 2))) ≡ one-if (ltb v (n + 2) && eqb (low-of us′ v) v)) (sym next-is)
-          (subst (λ (h : ℕ → ℕ). (v : ℕ) → occ v (names h (rings (island-next (next-of us) n) (n + 2))) ≡ one-if (ltb v (n + 2) && eqb (h v) v)) (sym low-is)
-              (λ v. island-names (next-of us) (low-of us) n n (suc n) (L .in-rings) (L .low-along) v ∙ ap (λ w. one-if (eqb v (suc n)) + (one-if (eqb v n) + w)) (L .low-names v) ∙ low-test v)) }
+  island-lawful = record {
+    paired = omega (arith, L .paired);
+    polygon-zero = omega arith;
+    polygons-few = omega (arith, L .polygons-few);
+    nodes-few = omega (arith, L .nodes-few);
+    in-rings = subst (λ (g : ℕ → ℕ). Ringed g (n + 2)) (sym next-is) (K .ringed);
+    in-turns = subst (λ (g : ℕ → ℕ). Ringed (turn g) (n + 2)) (sym next-is) (K .turned);
+    rings-close =
+        subst (λ (g : ℕ → ℕ). Closes g (node-of us′) (n + 2)) (sym next-is)
+        (subst (λ (h : ℕ → ℕ). Closes (island-next (next-of us) n) h (n + 2)) (sym node-is) (K .closes));
+    one-polygon =
+        subst (λ (g : ℕ → ℕ). Bounds g (polygon-of us′) (n + 2)) (sym next-is)
+        (subst (λ (h : ℕ → ℕ). Bounds (island-next (next-of us) n) h (n + 2)) (sym polygon-is) (K .bounds));
+    one-turn =
+        subst (λ (g : ℕ → ℕ). Noded g (node-of us′) (n + 2) (nodes + 1)) (sym next-is)
+        (subst (λ (h : ℕ → ℕ). Noded (island-next (next-of us) n) h (n + 2) (nodes + 1)) (sym node-is) (K .noded));
+    polygons-known = subst (λ (h : ℕ → ℕ). (s : ℕ) → s < n + 2 → h s < polygons + 1) (sym polygon-is) polygons-known′;
+    polygons-have-rings =
+        subst (λ (g : ℕ → ℕ). (q : ℕ) → 0 < q → q < polygons + 1 → 0 < occ q (names (polygon-of us′) (rings g (n + 2)))) (sym next-is)
+        (subst (λ (h : ℕ → ℕ). (q : ℕ) → 0 < q → q < polygons + 1 → 0 < occ q (names h (rings (island-next (next-of us) n) (n + 2)))) (sym polygon-is) polygons-have-rings′);
+    ends-together =
+        subst (λ (h : ℕ → ℕ). (s t : ℕ) → ((s < n + 2) × (t < n + 2) × (h s ≡ h t)) → same-place (start-of us′ vs′ s) (start-of us′ vs′ t) ≡ true) (sym node-is)
+        (subst (λ (w : ℕ → ℕ). (s t : ℕ) → ((s < n + 2) × (t < n + 2) × (node′ s ≡ node′ t)) → same-place (getD vs′ (w s) no-vertex) (getD vs′ (w t) no-vertex) ≡ true) (sym row-is) ends-together′);
+    all-finite = all-finite′;
+    runs-stand = subst (λ (w : ℕ → ℕ). (k : ℕ) → k + k + 1 < n + 2 → (w (k + k) < w (k + k + 1)) × (w (k + k + 1) < length vs′)) (sym row-is) runs-stand′;
+    low-along =
+        subst (λ (g : ℕ → ℕ). Bounds g (low-of us′) (n + 2)) (sym next-is)
+        (subst (λ (h : ℕ → ℕ). Bounds (island-next (next-of us) n) h (n + 2)) (sym low-is) (J .bounds));
+    low-below = subst (λ (h : ℕ → ℕ). (s : ℕ) → s < n + 2 → h s ≤ s) (sym low-is) low-below′;
+    low-names =
+        subst (λ (g : ℕ → ℕ). (v : ℕ) → occ v (names (low-of us′) (rings g (n + 2))) ≡ one-if (ltb v (n + 2) && eqb (low-of us′ v) v)) (sym next-is)
+        (subst (λ (h : ℕ → ℕ). (v : ℕ) → occ v (names h (rings (island-next (next-of us) n) (n + 2))) ≡ one-if (ltb v (n + 2) && eqb (h v) v)) (sym low-is)
+        (λ v. island-names (next-of us) (low-of us) n n (suc n) (L .in-rings) (L .low-along) v ∙ ap (λ w. one-if (eqb v (suc n)) + (one-if (eqb v n) + w)) (L .low-names v) ∙ low-test v));
+  }
 
   -- two rings more
   pub island-rings : length (rings (next-of us′) (n + 2)) ≡ length (rings (next-of us) n) + 2

@@ -5,3 +5,5 @@ pub mod Growth
 pub mod Appended
 pub mod Places
 pub mod IslandLaw
+pub mod Goods
+pub mod IslandDone

@@ -38,15 +38,16 @@ abbrev pub turned : ℕ → ℕ → ℕ → ℕ → Side
 turned n node row polygon = record { node = node; row = row; polygon = polygon; next = n + 1; low = n + 1 }
 
 abbrev pub island : State → ℕ → List Vertex → State
-island m p run = record
-    { hand = m .hand
-    ; sides = m .sides ++ unturned (length (m .sides)) (m .nodes) (length (m .vertices)) (m .polygons)
-        ∷ turned (length (m .sides)) (m .nodes) (length (m .vertices) + (length run - 1)) p ∷ []
-    ; vertices = m .vertices ++ run
-    ; nodes = m .nodes + 1
-    ; polygons = m .polygons + 1
-    ; side-rows = m .side-rows
-    ; vertex-rows = m .vertex-rows }
+island m p run = record {
+  hand = m .hand;
+  sides = m .sides ++ unturned (length (m .sides)) (m .nodes) (length (m .vertices)) (m .polygons)
+      ∷ turned (length (m .sides)) (m .nodes) (length (m .vertices) + (length run - 1)) p ∷ [];
+  vertices = m .vertices ++ run;
+  nodes = m .nodes + 1;
+  polygons = m .polygons + 1;
+  side-rows = m .side-rows;
+  vertex-rows = m .vertex-rows;
+}
 
 -- Island (polygon, run): 20 for no such polygon, then 21 for a run that makes no closed arc, then 22 for no room.
 abbrev pub island-outcome : State → ℕ → List Vertex → Result State Refusal

@@ -5,3 +5,4 @@ pub mod Questions
 pub mod Tables
 pub mod Lawfuls
 pub mod Islands
+pub mod Edited

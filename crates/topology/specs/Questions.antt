@@ -1,4 +1,5 @@
 -- What each question answers, for every map and every argument.
+use mathlib.Core.Path.{_≡_}
 use mathlib.Core.Bool.{cond}
 use mathlib.Core.List.{List}
 use Prim.Native.Nat.{ℕ, _+_, _-_, _/_, _<_}
@@ -54,3 +55,7 @@ ring-at m k =
     cond (ltb k (length (rings-of m)))
     (Ok (polygon-of (m .sides) (getD (starts (rings-of m)) k 0), getD (starts (rings-of m)) k 0))
     (Err NoSuchElement)
+
+-- nodes + rings - arcs rises by k from one map to another; said without a difference, since the sum may fall below zero
+abbrev pub Rises : ℕ → State → State → Type 0
+Rises k was is = is .nodes + length (rings-of is) + arc-count was ≡ was .nodes + length (rings-of was) + arc-count is + k

@@ -20,14 +20,15 @@ pub record State : Type 0 where
   pub vertex-rows : ℕ
 
 abbrev pub state-of : Map → State
-state-of m = record
-    { hand = m .hand
-    ; sides = take (m .sides .used) (now (m .sides .rows))
-    ; vertices = take (m .vertices .used) (now (m .vertices .rows))
-    ; nodes = m .nodes
-    ; polygons = m .polygons
-    ; side-rows = length (now (m .sides .rows))
-    ; vertex-rows = length (now (m .vertices .rows)) }
+state-of m = record {
+  hand = m .hand;
+  sides = take (m .sides .used) (now (m .sides .rows));
+  vertices = take (m .vertices .used) (now (m .vertices .rows));
+  nodes = m .nodes;
+  polygons = m .polygons;
+  side-rows = length (now (m .sides .rows));
+  vertex-rows = length (now (m .vertices .rows));
+}
 
 -- no arcs, and one polygon, 0
 abbrev pub blank : Hand → ℕ → ℕ → State

@@ -3,7 +3,6 @@ ghost use Prim.Native.Nat.{ℕ, _+_, _%_, _<_, _≤_};
 ghost use denote.Ref.{now};
 ghost use lib.ListN.{length, take};
 ghost use Rattle.topology.specs.MapLaw.{InRings, InTurns, RingsClose, OnePolygon, OneTurn, PolygonsKnown, PolygonsHaveRings, EndsTogether, AllFinite, RunsStand, LowAlong, LowBelow, LowNames};
-
 use super::hand::Hand;
 use super::side::Side;
 use super::table::Table;

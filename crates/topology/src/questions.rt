@@ -5,7 +5,6 @@ ghost use Rattle.topology.specs.Rows.{next-of, node-of, polygon-of};
 ghost use Rattle.topology.specs.States.{state-of};
 ghost use Rattle.topology.specs.Questions.{arc-count, side-row, about-side, arc-rows, vertex-count, vertex-at, rings-of, ring-at};
 ghost use Rattle.std.specs.Vec.{made};
-
 use super::hand::Hand;
 use super::map::Map;
 use super::side::Side;

@@ -2,7 +2,6 @@ ghost use mathlib.Core.Path.{_≡_};
 ghost use denote.Ref.{name};
 ghost use lib.ListN.{length};
 ghost use Rattle.topology.specs.States.{state-of, blank};
-
 use super::hand::Hand;
 use super::map::Map;
 use super::side::Side;
@@ -18,8 +17,14 @@ impl<'a> Map<'a> {
     {
         Map {
             hand,
-            sides: Table { rows: sides, used: 0 },
-            vertices: Table { rows: vertices, used: 0 },
+            sides: Table {
+                rows: sides,
+                used: 0,
+            },
+            vertices: Table {
+                rows: vertices,
+                used: 0,
+            },
             nodes: 0,
             polygons: 1,
         }

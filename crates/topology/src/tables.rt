@@ -4,7 +4,6 @@ ghost use Prim.Native.Nat.{ℕ, _+_, _<_, _≤_};
 ghost use denote.Ref.{now};
 ghost use lib.ListN.{length};
 ghost use Rattle.topology.specs.Tables.{Grown};
-
 use super::table::Table;
 
 impl<'a, T> Table<'a, T> {
@@ -17,7 +16,10 @@ impl<'a, T> Table<'a, T> {
     {
         let Table { rows, used } = self;
         rows[used] = row;
-        Table { rows, used: used + 1 }
+        Table {
+            rows,
+            used: used + 1,
+        }
     }
 
     // The rows of a run more.

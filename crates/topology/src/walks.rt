@@ -5,7 +5,6 @@ ghost use lib.ListN.{length, take};
 ghost use Rattle.std.specs.Options.{Cases as BySome};
 ghost use Rattle.rings.specs.Circles.{kept};
 ghost use Rattle.topology.specs.Rows.{tells};
-
 use super::side::Side;
 
 // How many of the sides in use are the lowest of their ring.

@@ -14,11 +14,11 @@ loop-s-again c =
     let s = c .loop-s .s in
     let P = tells (take n rows) in
     let v = c .loop-s .inv in
-    elim (c .if-sides-s .came)
-    [ then-sides-s w ↦
-        let y = kept-yes P s (tells-yes rows n s (omega arith) (w .if-sides-s .taken)) in
-        (omega (arith, w .n-is, v .0), w .n-is ∙ ap (λ k. k + 1) (v .1) ∙ sym y)
-    | else-sides-s w ↦
-        let y = kept-no P s (tells-no rows n s (omega arith) (w .if-sides-s .left)) in
-        (omega (arith, w .n-is, v .0), w .n-is ∙ v .1 ∙ sym y)
+    elim (c .if-sides-s .came) [
+      | then-sides-s w ↦
+          let y = kept-yes P s (tells-yes rows n s (omega arith) (w .if-sides-s .taken)) in
+          (omega (arith, w .n-is, v .0), w .n-is ∙ ap (λ k. k + 1) (v .1) ∙ sym y)
+      | else-sides-s w ↦
+          let y = kept-no P s (tells-no rows n s (omega arith) (w .if-sides-s .left)) in
+          (omega (arith, w .n-is, v .0), w .n-is ∙ v .1 ∙ sym y)
     ]

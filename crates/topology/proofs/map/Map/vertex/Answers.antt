@@ -14,4 +14,4 @@ returns c =
     let s = c .in-Continue-first .ensures tt .stands in
     let h : c .in-Continue-first .first + c .args .k < t .used = omega (arith, l, s .0, s .1) in
     pick-told _ (c .in-Continue-first .first) (c .in-Continue-first .last) (c .args .k) (take (t .used) (t .rows .now)) _
-      (c .in-Continue-first .ensures tt .value) (omega arith) (in-use (t .rows .now) (t .used) (c .in-Continue-first .first + c .args .k) no-vertex h)
+    (c .in-Continue-first .ensures tt .value) (omega arith) (in-use (t .rows .now) (t .used) (c .in-Continue-first .first + c .args .k) no-vertex h)

@@ -7,9 +7,10 @@ pub returns : need.returns
 returns g c =
     let t = c .args .self in
     let e = c .copy-from-slice .ensures .after in
-    record
-      { used = refl
-      ; rows = take-put (t .rows .now) _ (c .args .run .now) (t .used) _ e (omega arith) (c .pre)
-      ; rest = drop-put (t .rows .now) _ (c .args .run .now) (t .used) _ e (omega arith) (c .pre)
-      ; long = length-put (t .rows .now) _ (c .args .run .now) (t .used) _ e (omega arith) (c .pre)
-      ; lent = refl }
+    record {
+      used = refl;
+      rows = take-put (t .rows .now) _ (c .args .run .now) (t .used) _ e (omega arith) (c .pre);
+      rest = drop-put (t .rows .now) _ (c .args .run .now) (t .used) _ e (omega arith) (c .pre);
+      long = length-put (t .rows .now) _ (c .args .run .now) (t .used) _ e (omega arith) (c .pre);
+      lent = refl;
+    }
