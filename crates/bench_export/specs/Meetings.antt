@@ -9,9 +9,9 @@ use Rattle.boxes.specs.declared.edges.Edges.{Edges}
 use Rattle.layout.specs.declared.kind.Kind.{Kind}
 use Rattle.layout.specs.declared.kind.Kind.the-variants.{Points, Arcs, Nodes, Polygons}
 use Rattle.boxes.specs.Boxes.{edges-at, fair-edges}
-use Rattle.views.specs.declared.shape.Shape.{Shape}
+use Rattle.records.specs.declared.shape.Shape.{Shape}
 use Rattle.views.specs.Shapes.{view-outcome}
-use Rattle.views.specs.Boxing.{box-outcome}
+use Rattle.records.specs.Boxing.{box-outcome}
 use Rattle.tables.specs.Windows.{met, tally}
 
 -- the largest number of 64 bits stands for a refusal

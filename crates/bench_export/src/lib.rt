@@ -3,13 +3,13 @@ ghost use mathlib.Core.Path.{_≡_};
 ghost use Rattle.bench_export.specs.Meetings.{among, arcs-meeting};
 use boxes::bounds::Bounds;
 use boxes::edges::Edges;
+use records::kinds::Arcs;
+use records::kinds::ArcsBoxed;
+use records::kinds::ArcsKind;
+use records::record_tables::RecordsBoxed;
+use records::record_tables::RecordsTable;
+use records::records::Records;
 use tables::tables::count_meeting;
-use views::kinds::Arcs;
-use views::kinds::ArcsBoxed;
-use views::kinds::ArcsKind;
-use views::record_tables::RecordsBoxed;
-use views::record_tables::RecordsTable;
-use views::records::Records;
 use views::view::View;
 
 // How many arcs of a table meet a window.

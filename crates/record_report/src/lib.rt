@@ -1,4 +1,2 @@
-// The report on the records of a file, and the answer to a request for them.
-pub mod answer;
-pub mod answers;
+// The report on the records of a file, as text.
 pub mod reports;

@@ -1,6 +1,6 @@
 // Finds the records of a MiraMon file that meet a window, and prints each record and its list with their places.
-use record_report::answer::Answer;
-use record_report::answers::answer;
+use record_answer::answer::Answer;
+use record_answer::answers::answer;
 use record_request::Fault;
 use record_request::FaultDisplay;
 use record_request::read_request;

@@ -1,2 +1,3 @@
 pub mod MetLaws
 pub mod CountLaws
+pub mod RowLaws

@@ -10,7 +10,7 @@ use Rattle.std.proofs.shelf.Bits.{mul-le}
 use Rattle.std.proofs.shelf.Tests.{lt-ltb, le-leb}
 use Rattle.layout.specs.declared.kind.Kind.{Kind}
 use Rattle.layout.specs.Sizes.{width, record-size}
-use Rattle.views.specs.declared.shape.Shape.{Shape}
+use Rattle.records.specs.declared.shape.Shape.{Shape}
 use Rattle.views.specs.Shapes.{records-end}
 use Rattle.views.specs.Viewed.{Whole}
 

@@ -1,4 +1,2 @@
-pub mod Parts
 pub mod Shapes
-pub mod Boxing
 pub mod Viewed

@@ -15,7 +15,7 @@ use Rattle.headers.specs.declared.header.Header.{Header}
 use Rattle.layout.specs.Sizes.{width, header-size, sides-size, record-size}
 use Rattle.layout.specs.Texts.{kind-by-letter}
 use Rattle.headers.specs.Heads.{header-outcome}
-use Rattle.views.specs.declared.shape.Shape.{Shape}
+use Rattle.records.specs.declared.shape.Shape.{Shape}
 
 -- where the records begin: after the header, and in a POL after the sides of the arcs
 abbrev pub first-place : Kind → ℕ → ℕ → ℕ

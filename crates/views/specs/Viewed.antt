@@ -9,10 +9,10 @@ use Rattle.std.specs.declared.result.Result.the-variants.{Ok, Err}
 use Rattle.refusal.specs.declared.Refusal.{Refusal}
 use Rattle.layout.specs.declared.kind.Kind.{Kind}
 use Rattle.layout.specs.declared.kind.Kind.the-variants.{Points, Arcs, Nodes, Polygons}
-use Rattle.views.specs.declared.shape.Shape.{Shape}
+use Rattle.records.specs.declared.shape.Shape.{Shape}
 use Rattle.views.specs.declared.view.View.{View}
 use Rattle.views.specs.declared.view.View.the-variants.{OfPoints, OfArcs, OfNodes, OfPolygons}
-use Rattle.views.specs.Parts.{record-outcome}
+use Rattle.records.specs.Parts.{record-outcome}
 use Rattle.views.specs.Shapes.{records-end}
 use Rattle.layout.specs.Sizes.{width, record-size}
 

@@ -1,7 +1,3 @@
-// Views of single files: records and their lists as parts of the file.
-pub mod kinds;
-pub mod record_tables;
-pub mod records;
-pub mod shape;
+// Views of single files, asked for by letter.
 pub mod view;
 pub mod viewing;

@@ -1,8 +1,8 @@
-use super::kinds::Arcs;
-use super::kinds::Nodes;
-use super::kinds::Points;
-use super::kinds::Polygons;
-use super::records::Records;
+use records::kinds::Arcs;
+use records::kinds::Nodes;
+use records::kinds::Points;
+use records::kinds::Polygons;
+use records::records::Records;
 
 /// A view of a file, by the kind of its records.
 #[derive(Drop)]

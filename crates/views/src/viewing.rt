@@ -4,13 +4,16 @@ ghost use Rattle.views.specs.Shapes.{view-outcome, placed-by, records-end};
 ghost use Rattle.views.specs.Viewed.{Viewed, Whole};
 ghost use Rattle.std.specs.Options.{Cases as BySome};
 ghost use Rattle.std.specs.Vec.{made};
-use super::records::Records;
-use super::shape::Shape;
 use super::view::View;
 use headers::header::Header;
 use layout::kind::Kind;
+use records::kinds::ArcsKind;
+use records::kinds::NodesKind;
+use records::kinds::PointsKind;
+use records::kinds::PolygonsKind;
+use records::records::Records;
+use records::shape::Shape;
 use refusal::Refusal;
-use std::marker::PhantomData;
 
 // Where `count` things of a size end that begin at `first`, if that is at most `size`.
 fn end_within(first: usize, count: u64, stride: usize, size: usize) -> Option<usize>
@@ -68,26 +71,10 @@ impl<'a> View<'a> {
     {
         let (kind, shape) = located(letter, file, arcs)?;
         match kind {
-            Kind::Points => Ok(View::OfPoints(Records {
-                file,
-                shape,
-                kind: PhantomData,
-            })),
-            Kind::Arcs => Ok(View::OfArcs(Records {
-                file,
-                shape,
-                kind: PhantomData,
-            })),
-            Kind::Nodes => Ok(View::OfNodes(Records {
-                file,
-                shape,
-                kind: PhantomData,
-            })),
-            Kind::Polygons => Ok(View::OfPolygons(Records {
-                file,
-                shape,
-                kind: PhantomData,
-            })),
+            Kind::Points => Ok(View::OfPoints(Records::over(file, shape))),
+            Kind::Arcs => Ok(View::OfArcs(Records::over(file, shape))),
+            Kind::Nodes => Ok(View::OfNodes(Records::over(file, shape))),
+            Kind::Polygons => Ok(View::OfPolygons(Records::over(file, shape))),
         }
     }
 }

@@ -4,10 +4,9 @@ ghost use Prim.Native.Nat.{ℕ, _≤_};
 ghost use Rattle.layout.specs.declared.kind.Kind.{Kind};
 ghost use Rattle.layout.specs.declared.kind.Kind.the-variants.{Points as PointKind, Arcs as ArcKind, Nodes as NodeKind, Polygons as PolygonKind};
 ghost use Rattle.boxes.specs.declared.edges.Edges.{Edges};
-ghost use Rattle.layout.specs.Numbers.{Field};
-ghost use Rattle.boxes.specs.Boxes.{edges-at, point-at};
+ghost use Rattle.boxes.specs.Boxes.{edges-at, point-at, BoxRead};
 ghost use Rattle.layout.specs.Sizes.{record-size};
-use boxes::edges::Edges;
+use boxes::bounds::Bounds;
 use layout::kind::Kind;
 use refusal::Refusal;
 
@@ -29,9 +28,9 @@ pub trait BoxedKind: RecordKind {
 
     law within: { (w : ℕ) → extent ≤ record-size (Self·RecordKind .kind) w };
 
-    /// The box that a record tells. 1 when the record ends before it.
-    fn read_edges(bytes: &[u8]) -> Result<Edges, Refusal>
-        ensures { λ r. ⌜ Field (now (bytes .entry)) 0 extent (edges (now (bytes .entry))) r ⌝ };
+    /// The box that a record tells. 1 when the record ends before it, then 10 when it is not finite and in order.
+    fn read_bounds(bytes: &[u8]) -> Result<Bounds, Refusal>
+        ensures { λ r. ⌜ BoxRead (now (bytes .entry)) 0 extent (edges (now (bytes .entry))) r ⌝ };
 }
 
 pub struct Points;
@@ -80,8 +79,8 @@ pub impl BoxedKind for Points as PointsBoxed {
 
     ghost edges = { λ bs. point-at bs 0 };
 
-    fn read_edges(bytes: &[u8]) -> Result<Edges, Refusal> {
-        Edges::read_point(bytes, 0)
+    fn read_bounds(bytes: &[u8]) -> Result<Bounds, Refusal> {
+        Bounds::read_point(bytes, 0)
     }
 }
 
@@ -90,8 +89,8 @@ pub impl BoxedKind for Arcs as ArcsBoxed {
 
     ghost edges = { λ bs. edges-at bs 0 };
 
-    fn read_edges(bytes: &[u8]) -> Result<Edges, Refusal> {
-        Edges::read(bytes, 0)
+    fn read_bounds(bytes: &[u8]) -> Result<Bounds, Refusal> {
+        Bounds::read(bytes, 0)
     }
 }
 
@@ -100,7 +99,7 @@ pub impl BoxedKind for Polygons as PolygonsBoxed {
 
     ghost edges = { λ bs. edges-at bs 0 };
 
-    fn read_edges(bytes: &[u8]) -> Result<Edges, Refusal> {
-        Edges::read(bytes, 0)
+    fn read_bounds(bytes: &[u8]) -> Result<Bounds, Refusal> {
+        Bounds::read(bytes, 0)
     }
 }

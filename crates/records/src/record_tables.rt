@@ -5,17 +5,19 @@ ghost use lib.ListN.{length};
 ghost use Rattle.layout.specs.Sizes.{width, record-size};
 ghost use Rattle.std.specs.declared.result.Result.the-variants.{Ok};
 ghost use Rattle.layout.specs.Numbers.{number-at};
-ghost use Rattle.views.specs.Parts.{record-outcome, list-outcome, list-place, entries};
+ghost use Rattle.records.specs.Parts.{record-outcome, list-outcome, list-place, entries};
 ghost use Rattle.tables.specs.Handing.{Handed};
-ghost use Rattle.views.specs.Boxing.{box-outcome};
+ghost use Rattle.records.specs.Boxing.{box-outcome};
 ghost use Rattle.tables.specs.Windows.{told};
 use super::kinds::BoxedKind;
 use super::kinds::RecordKind;
 use super::records::Records;
+use super::shape::Shape;
 use boxes::bounds::Bounds;
 use layout::kind::Kind;
 use layout::version::Version;
 use refusal::Refusal;
+use std::marker::PhantomData;
 use tables::part::Part;
 use tables::tables::BoxedTable;
 use tables::tables::RecordTable;
@@ -62,6 +64,17 @@ fn list_head(
 }
 
 impl<'a, K: RecordKind> Records<'a, K> {
+    /// The records of a file that lie where the shape says; one that passes the end of the file is refused with 1 when it is asked for.
+    pub fn over(file: &'a [u8], shape: Shape) -> Records<'a, K>
+        ensures { λ r. ⌜ now (r .file) ≡ now (file .entry) ⌝ ∗ ⌜ r .shape ≡ shape ⌝ }
+    {
+        Records {
+            file,
+            shape,
+            kind: PhantomData,
+        }
+    }
+
     /// The edition of the file.
     pub fn version(&self) -> Version
         ensures { λ r. ⌜ r ≡ now (self .entry) .shape .version ⌝ }
@@ -77,7 +90,7 @@ impl<'a, K: RecordKind> Records<'a, K> {
             return Err(Refusal::NoSuchElement);
         }
         let size = self.version().sizes().record(K::kind());
-        Part::of_many(self.file, self.shape.first, k, 1, size)
+        Part::of_row(self.file, self.shape.first, k, size)
     }
 
     /// The list of record k, for as long as the file is held.
@@ -88,7 +101,7 @@ impl<'a, K: RecordKind> Records<'a, K> {
         let kind = K::kind();
         let (place, count) = list_head(kind, self.version(), self.file, record.place)?;
         let entry = self.version().sizes().list_entry(kind);
-        Part::of_many(self.file, place, 0, count, entry)
+        Part::of_entries(self.file, place, count, entry)
     }
 }
 
@@ -119,7 +132,6 @@ pub impl<'a, K: BoxedKind> BoxedTable for Records<'a, K> as RecordsBoxed {
 
     fn bounds(&self, k: usize) -> Result<Bounds, Refusal> {
         let record = self.record_of(k)?;
-        let edges = K::read_edges(record.bytes)?;
-        Bounds::new(edges)
+        K::read_bounds(record.bytes)
     }
 }

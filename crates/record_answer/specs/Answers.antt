@@ -13,15 +13,15 @@ use Rattle.boxes.specs.declared.edges.Edges.{Edges}
 use Rattle.layout.specs.declared.kind.Kind.{Kind}
 use Rattle.layout.specs.declared.kind.Kind.the-variants.{Points, Arcs, Nodes, Polygons}
 use Rattle.boxes.specs.Boxes.{edges-at, point-at, fair-edges}
-use Rattle.views.specs.declared.shape.Shape.{Shape}
-use Rattle.views.specs.Parts.{record-outcome, list-outcome}
+use Rattle.records.specs.declared.shape.Shape.{Shape}
+use Rattle.records.specs.Parts.{record-outcome, list-outcome}
 use Rattle.views.specs.Shapes.{view-outcome}
-use Rattle.views.specs.Boxing.{box-outcome}
+use Rattle.records.specs.Boxing.{box-outcome}
 use Rattle.tables.specs.Windows.{met}
-use Rattle.record_report.specs.declared.answer.Answer.{Answer}
-use Rattle.record_report.specs.declared.answer.Answer.the-variants.{Text, Refused, NoBoxes}
+use Rattle.record_answer.specs.declared.answer.Answer.{Answer}
+use Rattle.record_answer.specs.declared.answer.Answer.the-variants.{Text, Refused, NoBoxes}
 use Rattle.record_lines.specs.Texts.{line}
 use Rattle.record_report.specs.Reports.{report-text, every}
 
 -- the report on the wanted records of a file
 abbrev pub text-on : Kind → List ℕ → Shape → (ℕ → Bool) → List ℕ

@@ -14,8 +14,8 @@ use Rattle.layout.specs.declared.kind.Kind.{Kind}
 use Rattle.boxes.specs.declared.edges.Edges.{Edges}
 use Rattle.boxes.specs.declared.bounds.Bounds.{Bounds}
 use Rattle.boxes.specs.Boxes.{fair-edges, edges-of, meets, Share}
-use Rattle.views.specs.declared.shape.Shape.{Shape}
-use Rattle.views.specs.Parts.{record-outcome}
+use Rattle.records.specs.declared.shape.Shape.{Shape}
+use Rattle.records.specs.Parts.{record-outcome}
 
 abbrev boxed-by : (List ℕ → Edges) → List ℕ → Result (ℕ × ℕ) Refusal → Result Edges Refusal
 boxed-by edges bs (Ok (at, n)) = cond (fair-edges (edges (run bs at n))) (Ok (edges (run bs at n))) (Err UnfitBox)

@@ -14,7 +14,7 @@ use Rattle.layout.specs.declared.version.Version.{Version}
 use Rattle.layout.specs.Numbers.{number-at}
 use Rattle.layout.specs.Sizes.{width, record-size, entry-size}
 use Rattle.tables.specs.Extents.{part-outcome}
-use Rattle.views.specs.declared.shape.Shape.{Shape}
+use Rattle.records.specs.declared.shape.Shape.{Shape}
 
 -- Record k: 20 when there is none.
 abbrev pub record-outcome : Kind → List ℕ → Shape → ℕ → Result (ℕ × ℕ) Refusal

@@ -1,0 +1,3 @@
+// The answer to a request for the records of a file.
+pub mod answer;
+pub mod answers;
