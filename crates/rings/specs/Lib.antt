@@ -1,4 +1,3 @@
 pub mod Circles
 pub mod Law
 pub mod Edits
-pub mod Means

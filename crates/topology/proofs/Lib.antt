@@ -7,3 +7,4 @@ pub mod Places
 pub mod IslandLaw
 pub mod Goods
 pub mod IslandDone
+pub mod Turning

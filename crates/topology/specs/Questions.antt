@@ -1,6 +1,6 @@
 -- What each question answers, for every map and every argument.
 use mathlib.Core.Path.{_≡_}
-use mathlib.Core.Bool.{cond}
+use mathlib.Core.Bool.{true, cond}
 use mathlib.Core.List.{List}
 use Prim.Native.Nat.{ℕ, _+_, _-_, _/_, _<_}
 use lib.Dec.{leb, ltb}
@@ -9,7 +9,8 @@ use Rattle.std.specs.declared.result.Result.{Result}
 use Rattle.std.specs.declared.result.Result.the-variants.{Ok, Err}
 use Rattle.refusal.specs.declared.Refusal.{Refusal}
 use Rattle.refusal.specs.declared.Refusal.the-variants.{NoSuchElement}
-use Rattle.rings.specs.Circles.{rings, starts}
+use Rattle.rings.specs.Circles.{Circles, rings, starts, meets, Lowest, Rising}
+use Rattle.rings.specs.Law.{turn}
 use Rattle.topology.specs.declared.side.Side.{Side}
 use Rattle.topology.specs.declared.vertex.Vertex.{Vertex}
 use Rattle.topology.specs.Rows.{no-side, no-vertex, next-of, node-of, polygon-of, row-of}
@@ -59,3 +60,15 @@ ring-at m k =
 -- nodes + rings - arcs rises by k from one map to another; said without a difference, since the sum may fall below zero
 abbrev pub Rises : ℕ → State → State → Type 0
 Rises k was is = is .nodes + length (rings-of is) + arc-count was ≡ was .nodes + length (rings-of was) + arc-count is + k
+
+-- the turn about the node where s begins, set out from s, meets every side that begins there
+abbrev pub TurnMeets : State → ℕ → Type 0
+TurnMeets m s = (t : ℕ) → t < length (m .sides) → node-of (m .sides) s ≡ node-of (m .sides) t → meets (turn (next-of (m .sides))) (length (m .sides)) s t ≡ true
+
+-- the list of rings parts the sides into circles of next sides; each starts at its lowest side, and they rise by it
+abbrev pub RingsListed : State → Type 0
+RingsListed m = Circles (next-of (m .sides)) (length (m .sides)) (rings-of m) × Lowest (rings-of m) × Rising 0 (rings-of m)
+
+-- however the sides are parted into circles of next sides, there are so many
+abbrev pub HoweverParted : State → ℕ → Type 0
+HoweverParted m r = (cs : List (List ℕ)) → Circles (next-of (m .sides)) (length (m .sides)) cs → length cs ≡ r

@@ -3,7 +3,7 @@ ghost use Prim.Native.Nat.{ℕ, _+_, _-_, _/_, _<_, _≤_};
 ghost use lib.ListN.{length};
 ghost use Rattle.topology.specs.Rows.{next-of, node-of, polygon-of};
 ghost use Rattle.topology.specs.States.{state-of};
-ghost use Rattle.topology.specs.Questions.{arc-count, side-row, about-side, arc-rows, vertex-count, vertex-at, rings-of, ring-at};
+ghost use Rattle.topology.specs.Questions.{arc-count, side-row, about-side, arc-rows, vertex-count, vertex-at, rings-of, ring-at, TurnMeets, RingsListed, HoweverParted};
 ghost use Rattle.std.specs.Vec.{made};
 use super::hand::Hand;
 use super::map::Map;
@@ -68,9 +68,10 @@ impl<'a> Map<'a> {
         Ok(row.next as usize)
     }
 
-    /// The node where a side begins. 20 when there is no such side.
+    /// The node where a side begins. 20 when there is no such side. The turn about that node, set out from this side, meets every side that begins there.
     pub fn first_node(&self, side: usize) -> Result<usize, Refusal>
-        ensures { λ r. ⌜ r ≡ about-side node-of (state-of (now (self .entry))) side ⌝ }
+        ensures value { λ r. ⌜ r ≡ about-side node-of (state-of (now (self .entry))) side ⌝ }
+        ensures turn { λ r. ⌜ made r (λ _. TurnMeets (state-of (now (self .entry))) side) ⌝ }
     {
         let row = self.side(side)?;
         Ok(row.node as usize)
@@ -108,9 +109,11 @@ impl<'a> Map<'a> {
         Ok(self.vertices.rows[first + k])
     }
 
-    /// How many rings there are.
+    /// How many rings there are: as many as in the list of rings, which has every side once, and as many however the sides are parted into circles.
     pub fn ring_count(&self) -> usize
-        ensures { λ r. ⌜ r ≡ length (rings-of (state-of (now (self .entry)))) ⌝ }
+        ensures value { λ r. ⌜ r ≡ length (rings-of (state-of (now (self .entry)))) ⌝ }
+        ensures listed { λ _. ⌜ RingsListed (state-of (now (self .entry))) ⌝ }
+        ensures parted { λ r. ⌜ HoweverParted (state-of (now (self .entry))) r ⌝ }
     {
         count_starts(self.sides.rows, self.sides.used)
     }
