@@ -10,7 +10,7 @@ use native.Mathlib.Omega.{arith}
 use Rattle.std.proofs.shelf.Tests.{cases-eq, cases-lt, cases-bool, ltb-true, eq-eqb, ne-eqb, eqb-true, lt-ltb, le-ltb, and-parts, and-left, cond-true, cond-false, cond-both}
 use Rattle.std.proofs.shelf.Lists.{length-append, append-nil, getD-append-left, getD-append-right}
 use Rattle.rings.specs.Circles.{one-if, occ, occs, Chain, AllCircles, Circles, first, names, ring, rings, meets, Lowest, Rising, starts, kept}
-use Rattle.rings.specs.Law.{Ringed, Bounds, LowAlong, LowBelow, LowNames}
+use Rattle.rings.specs.Law.{Ringed, Along, LowAlong, LowBelow, LowNames}
 use Rattle.rings.proofs.Occurs.{occ-append, one-same, one-other, one-most, one-below, one-past, below-one, below-more}
 use Rattle.rings.proofs.Ringed.{ringed-circles}
 use Rattle.rings.proofs.Listing.{ring-is}

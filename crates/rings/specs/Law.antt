@@ -22,8 +22,9 @@ Ringed f n = (k : ℕ) → occs k (rings f n) ≡ one-if (ltb k n)
 abbrev pub Closes : (ℕ → ℕ) → (ℕ → ℕ) → ℕ → Type 0
 Closes next node n = (s : ℕ) → s < n → node (turn next s) ≡ node s
 
-abbrev pub Bounds : (ℕ → ℕ) → (ℕ → ℕ) → ℕ → Type 0
-Bounds next pol n = (s : ℕ) → s < n → pol (next s) ≡ pol s
+-- one label along each circle
+abbrev pub Along : (ℕ → ℕ) → (ℕ → ℕ) → ℕ → Type 0
+Along next pol n = (s : ℕ) → s < n → pol (next s) ≡ pol s
 
 -- each node has one turn, and what is no node has none
 abbrev pub Noded : (ℕ → ℕ) → (ℕ → ℕ) → ℕ → ℕ → Type 0
@@ -33,11 +34,11 @@ Noded next node n nodes = (v : ℕ) → occ v (names node (rings (turn next) n))
 -- polygon; each node has one turn
 abbrev pub Law : (ℕ → ℕ) → (ℕ → ℕ) → (ℕ → ℕ) → ℕ → ℕ → Type 0
 Law next node pol n nodes =
-    (n % 2 ≡ 0) × Ringed next n × Ringed (turn next) n × Closes next node n × Bounds next pol n × Noded next node n nodes
+    (n % 2 ≡ 0) × Ringed next n × Ringed (turn next) n × Closes next node n × Along next pol n × Noded next node n nodes
 
 -- low tells the lowest member of each circle: one number along the circle, at most each member, and named by that one circle
 abbrev pub LowAlong : (ℕ → ℕ) → (ℕ → ℕ) → ℕ → Type 0
-LowAlong next low n = Bounds next low n
+LowAlong next low n = Along next low n
 
 abbrev pub LowBelow : (ℕ → ℕ) → ℕ → Type 0
 LowBelow low n = (s : ℕ) → s < n → low s ≤ s

@@ -12,7 +12,7 @@ use Rattle.std.proofs.shelf.Tests.{cases-eq, cases-lt, and-parts, and-left, leb
 use Rattle.std.proofs.shelf.Lists.{getD-append-left, getD-append-right, length-append}
 use Rattle.std.proofs.shelf.Ways.{tells}
 use Rattle.rings.specs.Circles.{one-if, occ, names, put, rings}
-use Rattle.rings.specs.Law.{turn, Ringed, Closes, Bounds, Noded}
+use Rattle.rings.specs.Law.{turn, Ringed, Closes, Along, Noded}
 use Rattle.rings.specs.Edits.{island-next, island-node, island-polygon}
 use Rattle.rings.proofs.Occurs.{one-same, one-other, one-below, one-past}
 use Rattle.rings.proofs.Island.{IslandKeeps, island-keeps, island-names, label-n, label-top, label-old, node-n, node-top, node-old}
@@ -275,8 +275,8 @@ module _ (us : List Side) (vs run : List Vertex) (nodes polygons p : ℕ) (L : L
         subst (λ (g : ℕ → ℕ). Closes g (node-of us′) (n + 2)) (sym next-is)
         (subst (λ (h : ℕ → ℕ). Closes (island-next (next-of us) n) h (n + 2)) (sym node-is) (K .closes));
     one-polygon =
-        subst (λ (g : ℕ → ℕ). Bounds g (polygon-of us′) (n + 2)) (sym next-is)
-        (subst (λ (h : ℕ → ℕ). Bounds (island-next (next-of us) n) h (n + 2)) (sym polygon-is) (K .bounds));
+        subst (λ (g : ℕ → ℕ). Along g (polygon-of us′) (n + 2)) (sym next-is)
+        (subst (λ (h : ℕ → ℕ). Along (island-next (next-of us) n) h (n + 2)) (sym polygon-is) (K .bounds));
     one-turn =
         subst (λ (g : ℕ → ℕ). Noded g (node-of us′) (n + 2) (nodes + 1)) (sym next-is)
         (subst (λ (h : ℕ → ℕ). Noded (island-next (next-of us) n) h (n + 2) (nodes + 1)) (sym node-is) (K .noded));
@@ -290,8 +290,8 @@ module _ (us : List Side) (vs run : List Vertex) (nodes polygons p : ℕ) (L : L
     all-finite = all-finite′;
     runs-stand = subst (λ (w : ℕ → ℕ). (k : ℕ) → k + k + 1 < n + 2 → (w (k + k) < w (k + k + 1)) × (w (k + k + 1) < length vs′)) (sym row-is) runs-stand′;
     low-along =
-        subst (λ (g : ℕ → ℕ). Bounds g (low-of us′) (n + 2)) (sym next-is)
-        (subst (λ (h : ℕ → ℕ). Bounds (island-next (next-of us) n) h (n + 2)) (sym low-is) (J .bounds));
+        subst (λ (g : ℕ → ℕ). Along g (low-of us′) (n + 2)) (sym next-is)
+        (subst (λ (h : ℕ → ℕ). Along (island-next (next-of us) n) h (n + 2)) (sym low-is) (J .bounds));
     low-below = subst (λ (h : ℕ → ℕ). (s : ℕ) → s < n + 2 → h s ≤ s) (sym low-is) low-below′;
     low-names =
         subst (λ (g : ℕ → ℕ). (v : ℕ) → occ v (names (low-of us′) (rings g (n + 2))) ≡ one-if (ltb v (n + 2) && eqb (low-of us′ v) v)) (sym next-is)

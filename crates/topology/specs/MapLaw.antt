@@ -6,7 +6,7 @@ use Prim.Native.Nat.{ℕ, suc, _+_, _*_, _%_, _<_, _≤_}
 use lib.Dec.{eqb, ltb}
 use lib.ListN.{length, getD}
 use Rattle.rings.specs.Circles.{one-if, occ, names, rings}
-use Rattle.rings.specs.Law.{turn, Ringed, Closes, Bounds, Noded}
+use Rattle.rings.specs.Law.{turn, Ringed, Closes, Along, Noded}
 use Rattle.topology.specs.declared.side.Side.{Side}
 use Rattle.topology.specs.declared.vertex.Vertex.{Vertex}
 use Rattle.topology.specs.Rows.{no-vertex, next-of, node-of, polygon-of, row-of, low-of, good, same-place, start-of}
@@ -25,7 +25,7 @@ RingsClose us n = Closes (next-of us) (node-of us) n
 
 -- a ring stands under one polygon
 abbrev pub OnePolygon : List Side → ℕ → Type 0
-OnePolygon us n = Bounds (next-of us) (polygon-of us) n
+OnePolygon us n = Along (next-of us) (polygon-of us) n
 
 -- each node has one turn, so the turn meets every side that begins there, and every node has an end
 abbrev pub OneTurn : List Side → ℕ → ℕ → Type 0
@@ -53,7 +53,7 @@ RunsStand us vs n = (a : ℕ) → a + a + 1 < n → (row-of us (a + a) < row-of 
 
 -- the rows tell the lowest side of each ring: one side along the ring, at most each of its sides, and named by that one ring
 abbrev pub LowAlong : List Side → ℕ → Type 0
-LowAlong us n = Bounds (next-of us) (low-of us) n
+LowAlong us n = Along (next-of us) (low-of us) n
 
 abbrev pub LowBelow : List Side → ℕ → Type 0
 LowBelow us n = (s : ℕ) → s < n → low-of us s ≤ s
