@@ -1,4 +1,6 @@
 // The search, for the benchmark's Rust program.
+#![tactic(auto)]
+
 ghost use Rattle.std.specs.Prelude.{◌≡◌};
 ghost use Rattle.bench_export.specs.Meetings.{among, arcs_meeting};
 

@@ -1,4 +1,6 @@
 // Single bits of the flag byte of a header and of the VFG byte of an entry.
+#![tactic(auto)]
+
 ghost use Rattle.std.specs.Prelude.{◌≡◌, ◌<◌};
 ghost use Rattle.bits.specs.Bits.{bit, vfg_byte};
 

@@ -1,4 +1,6 @@
 // Doubles as files store them, and boxes.
+#![tactic(auto)]
+
 pub mod bounds;
 pub mod boxes;
 pub mod doubles;

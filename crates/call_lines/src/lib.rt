@@ -1,4 +1,6 @@
 // A line of a journal, read into a call.
+#![tactic(auto)]
+
 pub mod expected;
 pub mod line;
 pub mod reading;

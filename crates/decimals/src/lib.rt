@@ -1,4 +1,6 @@
 // Plain decimal numbers in text, as the doubles that are nearest to them.
+#![tactic(auto)]
+
 ghost use Rattle.std.specs.Prelude.{◌≡◌, ◌^◌, ◌<◌, ◌≤◌, false, ◌++◌, length, drop, IfSome, slice_index};
 ghost use Rattle.std.specs.Float.{binary64};
 ghost use Rattle.std.specs.Float.Ieee.{round};

@@ -1,4 +1,6 @@
 // Worked examples of the lowest floors: page lists, the page medium, numbers, doubles, boxes and VFG bytes. Each line of what it prints was worked out by hand.
+#![tactic(auto)]
+
 use bits::Vfg;
 use boxes::bounds::Bounds;
 use boxes::doubles::store_double;

@@ -1,3 +1,5 @@
 // The header that every file begins with.
+#![tactic(auto)]
+
 pub mod header;
 pub mod heads;

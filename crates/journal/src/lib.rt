@@ -1,4 +1,6 @@
 // A journal: its lines played on a map, each with its answer.
+#![tactic(auto)]
+
 pub mod ends;
 pub mod playing;
 pub mod step;

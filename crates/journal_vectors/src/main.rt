@@ -1,4 +1,6 @@
 // Plays the journals that the file `cases` names, one run to a line with its options, as sheet_journal does, and prints the answers after each. A line that is no call is told, and the run goes on.
+#![tactic(auto)]
+
 use journal::ends::line_of;
 use journal::playing::play_line;
 use journal::step::Step;

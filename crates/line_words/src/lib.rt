@@ -1,3 +1,5 @@
 // Words, and the words of a line.
+#![tactic(auto)]
+
 pub mod splitting;
 pub mod texts;

@@ -1,4 +1,6 @@
 // A map as text, in a buffer that the caller lends.
+#![tactic(auto)]
+
 ghost use Rattle.std.specs.Prelude.{◌≡◌, length};
 ghost use Rattle.topology.specs.States.{state_of};
 ghost use Rattle.topology.specs.Questions.{rings_of};

@@ -1,4 +1,6 @@
 // The lines of a report on the records of a file.
+#![tactic(auto)]
+
 ghost use Rattle.std.specs.Prelude.{◌≡◌, ℕ, ◌+◌, List, ◌++◌, length, IfOk, string_bytes};
 ghost use Rattle.tables.specs.Handing.{extent_of};
 ghost use Rattle.record_lines.specs.Texts.{kind_text, version_text, extent_text, line_of, line, head_text, foot_text};

@@ -1,2 +1,4 @@
 // The report on the records of a file, as text.
+#![tactic(auto)]
+
 pub mod reports;

@@ -1,4 +1,6 @@
 // A request for the records of a file, in the words of a command line.
+#![tactic(auto)]
+
 ghost use Rattle.std.specs.Prelude.{◌≡◌, ◌≤◌, false, length, drop, is_some, Some, Ok, Result};
 ghost use Rattle.std.specs.Float.Parse.{is_float_text};
 ghost use Rattle.words.specs.Words.{Decimal};

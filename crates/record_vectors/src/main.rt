@@ -1,4 +1,6 @@
 // Answers every request of the file `cases`, one to a line, as sheet_records does, and prints each after its request.
+#![tactic(auto)]
+
 use record_answer::answer::Answer;
 use record_answer::answers::answer;
 use record_request::read_request;

@@ -1,4 +1,6 @@
 // The closed list of refusals. Each is named by what is wrong, and carries its number.
+#![tactic(auto)]
+
 ghost use Rattle.std.specs.Prelude.{◌≡◌};
 ghost use Rattle.refusal.specs.Numbers.{number};
 

@@ -1,4 +1,6 @@
 // Circles of a function on numbers: the theory behind rings, turns and edits, and the step from a side to its opposite.
+#![tactic(auto)]
+
 ghost use Rattle.std.specs.Prelude.{◌≡◌};
 ghost use Rattle.rings.specs.Law.{opp};
 

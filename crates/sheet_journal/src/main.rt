@@ -1,4 +1,6 @@
 // Starts a blank map, plays the lines of standard input on it, and answers each call on standard output.
+#![tactic(auto)]
+
 use anyhow::anyhow;
 use journal::ends::line_of;
 use journal::playing::play_line;

@@ -1,4 +1,6 @@
 // Finds the records of a MiraMon file that meet a window, and prints each record and its list with their places.
+#![tactic(auto)]
+
 use anyhow::anyhow;
 use record_answer::answer::Answer;
 use record_answer::answers::answer;

@@ -1,4 +1,6 @@
 // A map of arcs, nodes, rings and polygons, whose type carries its law.
+#![tactic(auto)]
+
 pub mod arc_side;
 mod assembled;
 mod dissolves;

@@ -1,4 +1,6 @@
 // What a word of a command line or of a line of text says: a whole number, a decimal number, a character.
+#![tactic(auto)]
+
 ghost use Rattle.std.specs.Prelude.{◌≡◌, is_some};
 ghost use Rattle.std.specs.Float.Parse.{is_float_text};
 ghost use Rattle.words.specs.Words.{whole_of, character_of, Parsed, Decimal};

@@ -1,4 +1,6 @@
 // A square that is worked out by hand, step by step.
+#![tactic(auto)]
+
 ghost use Rattle.std.specs.Prelude.{◌≡◌, ℕ, length, Ok};
 ghost use Rattle.topology.specs.Islands.{island_outcome};
 ghost use Rattle.listing.specs.Texts.{listing, text_outcome, text_leaves};
