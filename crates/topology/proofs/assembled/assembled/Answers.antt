@@ -1,54 +1,29 @@
 use Rattle.topology.proofs.assembled.assembled.Goals as goal
 
-pub invariant-of-result : goal.invariant-of-result
-invariant-of-result c =
+pub invariant_of-result : goal.invariant_of-result
+invariant_of-result c =
     let f = c.requires.0 in
-    let l = c.requires.1 in (
-      f.sides_fit,
-      (
-        f.arcs_few,
-        (
-          f.vertices_fit,
-          (
-            f.vertices_few,
-            (
-              l.paired,
-              (
-                l.polygon_zero,
-                (
-                  l.polygons_few,
-                  (
-                    l.nodes_few,
-                    (
-                      l.in_rings,
-                      (
-                        l.in-turns,
-                        (
-                          l.rings_close,
-                          (
-                            l.one_polygon,
-                            (
-                              l.one_turn,
-                              (
-                                l.polygons_known,
-                                (
-                                  l.polygons_have_rings,
-                                  (
-                                    l.ends_together,
-                                    (l.all_finite, (l.runs_stand, (l.low_along, (l.low-below, (l.low_names, tt))))),
-                                  ),
-                                ),
-                              ),
-                            ),
-                          ),
-                        ),
-                      ),
-                    ),
-                  ),
-                ),
-              ),
-            ),
-          ),
-        ),
-      ),
-    )
+    let l = c.requires.1 in
+    record {
+      sides_fit = f.sides_fit;
+      arcs_few = f.arcs_few;
+      vertices_fit = f.vertices_fit;
+      vertices_few = f.vertices_few;
+      paired = l.paired;
+      polygon_zero = l.polygon_zero;
+      polygons_few = l.polygons_few;
+      nodes_few = l.nodes_few;
+      in_rings = l.in_rings;
+      in_turns = l.in_turns;
+      rings_close = l.rings_close;
+      one_polygon = l.one_polygon;
+      one_turn = l.one_turn;
+      polygons_known = l.polygons_known;
+      polygons_have_rings = l.polygons_have_rings;
+      ends_together = l.ends_together;
+      all_finite = l.all_finite;
+      runs_stand = l.runs_stand;
+      low_along = l.low_along;
+      low_below = l.low_below;
+      low_names = l.low_names;
+    }

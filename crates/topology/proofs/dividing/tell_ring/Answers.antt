@@ -7,14 +7,14 @@ loop-i-init c = telling_none c.args.sides.now c.args.used c.args.start c.args.po
 
 pub returns-then-at-start : goal.returns-then-at-start
 returns-then-at-start c =
-    telling_done c.args.sides.now c.loop-i.sides c.args.used c.args.start c.loop-i.at c.args.polygon c.args.low c.loop-i.-i c.requires.1.0 (omega arith)
+    telling_done c.args.sides.now c.loop-i.sides c.args.used c.args.start c.loop-i.at c.args.polygon c.args.low c.loop-i._i c.requires.1.0 (omega arith)
     c.loop-i.invariant c.if-at-start.true
 
 pub loop-i-preserved : goal.loop-i-preserved
 loop-i-preserved c =
-    telling_more c.args.sides.now c.loop-i.sides c.args.used c.args.start c.loop-i.at c.args.polygon c.args.low c.loop-i.-i c.requires.1.0 (omega arith)
+    telling_more c.args.sides.now c.loop-i.sides c.args.used c.args.start c.loop-i.at c.args.polygon c.args.low c.loop-i._i c.requires.1.0 (omega arith)
     c.loop-i.invariant c.requires.0 c.if-at-start.false
 
 pub unreachable-requires : goal.unreachable-requires
 unreachable-requires c =
-    telling_ends c.args.sides.now c.loop-i.sides c.args.used c.args.start c.loop-i.at c.args.polygon c.args.low c.loop-i.-i c.requires.0 c.requires.1.1 (omega arith) c.loop-i.invariant
+    telling_ends c.args.sides.now c.loop-i.sides c.args.used c.args.start c.loop-i.at c.args.polygon c.args.low c.loop-i._i c.requires.0 c.requires.1.1 (omega arith) c.loop-i.invariant

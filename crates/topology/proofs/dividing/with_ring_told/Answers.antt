@@ -13,13 +13,13 @@ returns c =
     let n = t.used in
     let s = c.args.start in
     let v = c.args.polygon in
-    let low = c.lowest-of-ring-low.result in
-    let e = c.tell-ring.ensures in
+    let low = c.lowest_of_ring-low.result in
+    let e = c.tell_ring.ensures in
     record {
       used = sym (told_long (take n full) s v ∙ long full n c.requires.1.0);
       rows =
           told_take full _ n s v low c.requires.1.0 e
-          ∙ ap (λ (l : ℕ). map (told_at (take n full) s v l) (range_with_len 0 (length (take n full)))) c.lowest-of-ring-low.ensures;
+          ∙ ap (λ (l : ℕ). map (told_at (take n full) s v l) (range_with_len 0 (length (take n full)))) c.lowest_of_ring-low.ensures;
       rest = told_drop full _ n s v low c.requires.1.0 e;
       long = told_size full _ n s v low c.requires.1.0 e;
       lent = refl;

@@ -17,6 +17,6 @@ returns c =
       | then-p-q w ↦ w.result-is ∙ sym (cond-true (eqb s.polygon t.polygon) s.polygon (c.args.polygons - 1) (eq-eqb s.polygon t.polygon w.if-p-q.true))
       | else-p-q w ↦ w.result-is ∙ sym (cond-false (eqb s.polygon t.polygon) s.polygon (c.args.polygons - 1) (ne_eqb s.polygon t.polygon w.if-p-q.false))
     ] in
-    numbers_same s t (get_or rows (n - 2) no_side) (get_or rows (n - 1) no_side) n c.args.nodes c.args.polygons a c.higher-of.result c.lower-of.result c.if-p-q.result
-    c.higher-of.ensures c.lower-of.ensures la
+    numbers_same s t (get_or rows (n - 2) no_side) (get_or rows (n - 1) no_side) n c.args.nodes c.args.polygons a c.higher_of.result c.lower_of.result c.if-p-q.result
+    c.higher_of.ensures c.lower_of.ensures la
     ∙ numbers_read rows n c.args.nodes c.args.polygons a c.requires.0 c.requires.1.1.0

@@ -24,7 +24,7 @@ loop-i-preserved c =
     let us = take n c.args.sides.now in
     let f = turn (next_of us) in
     let p = c.loop-i.at in
-    let i = c.loop-i.-i in
+    let i = c.loop-i._i in
     let l = c.loop-i.invariant.0 in
     let e : (get_or c.args.sides.now c.opposite-p.result no_side).next ≡ f p =
     ap (λ (k : ℕ). (get_or c.args.sides.now k no_side).next) c.opposite-p.ensures.value

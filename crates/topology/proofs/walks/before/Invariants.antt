@@ -7,4 +7,4 @@ use Rattle.topology.proofs.walks.before.Given as goal
 abbrev pub invariant-loop-i : goal.invariant-loop-i
 invariant-loop-i l =
     (l.at < l.used)
-    × (length (walk (turn (next_of (take l.used l.sides))) l.used l.side l.side) ≡ l.-i + length (walk (turn (next_of (take l.used l.sides))) (l.used - l.-i) l.side l.at))
+    × (length (walk (turn (next_of (take l.used l.sides))) l.used l.side l.side) ≡ l._i + length (walk (turn (next_of (take l.used l.sides))) (l.used - l._i) l.side l.at))

@@ -7,4 +7,4 @@ use Rattle.topology.proofs.map.Map.are_rings_alone.Goals as goal
 pub returns : goal.returns
 returns c =
     let m = c.args.self.now in
-    c.is-closed-alone.ensures ∙ alone_told (state_of m).sides (state_of m).vertices (length (state_of m).sides) m.nodes m.polygons c.args.arc refl (lawful_of m) (omega arith)
+    c.is_closed_alone.ensures ∙ alone_told (state_of m).sides (state_of m).vertices (length (state_of m).sides) m.nodes m.polygons c.args.arc refl (lawful_of m) (omega arith)

@@ -6,11 +6,11 @@ use Rattle.topology.proofs.Assembling.{assembled_state, assembled_done}
 use Rattle.topology.proofs.DissolveDone.{left_told, sides_long, room, rest_are, lent_are, dissolve_fits, dissolve_law, dissolve_agrees, dissolve_merged, dissolve_sum}
 use Rattle.topology.proofs.map.Map.dissolved.Goals as goal
 
-pub numbers-where-numbers-requires : goal.numbers-where-numbers-requires
-numbers-where-numbers-requires c =
+pub numbers_where-numbers-requires : goal.numbers_where-numbers-requires
+numbers_where-numbers-requires c =
     let m = c.args.self in
     let a = c.args.arc in
-    let t = c.set-free-rows.ensures in
+    let t = c.set_free-rows.ensures in
     let l = sides_long m a c.requires.1.0 c.requires.1.1.0 c.requires.1.1.1 in
     let r = room m a c.requires.1.0 c.requires.1.1.0 c.requires.1.1.1 in (
       omega (arith, t.used, t.long, m.sides_fit),
@@ -24,35 +24,35 @@ pub assembled-requires : goal.assembled-requires
 assembled-requires c =
     let m = c.args.self in
     let a = c.args.arc in
-    let t = c.set-free-rows.result in
+    let t = c.set_free-rows.result in
     let s = c.without-sides.result in
-    let w = c.put-back-sides.result in
-    let d = c.numbers-where-numbers.result in
-    let left = c.polygons-under-left.result in
-    let free = c.set-free-rows.ensures in
-    let numbers = c.numbers-where-numbers.ensures in
-    let lefts = left_told (take t.used t.rows.now) (freed (state_of m).sides m.nodes a) d (m.nodes + 1) m.polygons a left free.rows numbers c.polygons-under-left.ensures in (
-      dissolve_fits m a c.requires.1.0 c.requires.1.1.0 c.requires.1.1.1 t s w d left free numbers c.without-sides.ensures c.put-back-sides.ensures lefts,
-      dissolve_law m a c.requires.1.0 c.requires.1.1.0 c.requires.1.1.1 t s w d left free numbers c.without-sides.ensures c.put-back-sides.ensures lefts,
+    let w = c.put_back-sides.result in
+    let d = c.numbers_where-numbers.result in
+    let left = c.polygons_under-left.result in
+    let free = c.set_free-rows.ensures in
+    let numbers = c.numbers_where-numbers.ensures in
+    let lefts = left_told (take t.used t.rows.now) (freed (state_of m).sides m.nodes a) d (m.nodes + 1) m.polygons a left free.rows numbers c.polygons_under-left.ensures in (
+      dissolve_fits m a c.requires.1.0 c.requires.1.1.0 c.requires.1.1.1 t s w d left free numbers c.without-sides.ensures c.put_back-sides.ensures lefts,
+      dissolve_law m a c.requires.1.0 c.requires.1.1.0 c.requires.1.1.1 t s w d left free numbers c.without-sides.ensures c.put_back-sides.ensures lefts,
     )
 
 pub returns : goal.returns
 returns c =
     let m = c.args.self in
     let a = c.args.arc in
-    let t = c.set-free-rows.result in
+    let t = c.set_free-rows.result in
     let s = c.without-sides.result in
-    let w = c.put-back-sides.result in
-    let d = c.numbers-where-numbers.result in
-    let left = c.polygons-under-left.result in
-    let free = c.set-free-rows.ensures in
-    let numbers = c.numbers-where-numbers.ensures in
+    let w = c.put_back-sides.result in
+    let d = c.numbers_where-numbers.result in
+    let left = c.polygons_under-left.result in
+    let free = c.set_free-rows.ensures in
+    let numbers = c.numbers_where-numbers.ensures in
     let shrunk = c.without-sides.ensures in
-    let back = c.put-back-sides.ensures in
+    let back = c.put_back-sides.ensures in
     let here = c.requires.1.0 in
     let apart = c.requires.1.1.0 in
     let some = c.requires.1.1.1 in
-    let lefts = left_told (take t.used t.rows.now) (freed (state_of m).sides m.nodes a) d (m.nodes + 1) m.polygons a left free.rows numbers c.polygons-under-left.ensures in
+    let lefts = left_told (take t.used t.rows.now) (freed (state_of m).sides m.nodes a) d (m.nodes + 1) m.polygons a left free.rows numbers c.polygons_under-left.ensures in
     let A = c.assembled.ensures in
     let k = assembled_state m.hand w m.vertices m.nodes left c.assembled.result A in
     record {

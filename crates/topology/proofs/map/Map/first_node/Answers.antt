@@ -3,4 +3,4 @@ use Rattle.topology.proofs.Turning.{turns_meet}
 use Rattle.topology.proofs.map.Map.first_node.Goals as goal
 
 pub returns : goal.returns
-returns c = record { value = search rules; turn = turns_meet c.args.self.now c.args.side c.in-ok-row.row c.in-ok-row.ensures }
+returns c = record { value = search rules; turn = turns_meet c.args.self.now c.args.side c.in_ok-row.row c.in_ok-row.ensures }

@@ -5,8 +5,8 @@ use Rattle.topology.proofs.ArcRows.{arc_stands}
 use Rattle.topology.proofs.Splitting.{inside_read}
 use Rattle.topology.proofs.map.Map.is_inside.Goals as goal
 
-pub overflow-sub-result : goal.overflow-sub-result
-overflow-sub-result c =
+pub overflow_sub-result : goal.overflow_sub-result
+overflow_sub-result c =
     let m = c.args.self.now in
     let l = long m.sides.rows.now m.sides.used m.sides_fit in
     omega (arith, (arc_stands m.sides.rows.now (take m.vertices.used m.vertices.rows.now) m.sides.used c.args.arc (omega arith) m.runs_stand).0)

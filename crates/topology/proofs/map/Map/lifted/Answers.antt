@@ -11,8 +11,8 @@ use Rattle.topology.proofs.LiftDone.{some_node, left_same, left_fewer, lift_fits
 use Rattle.topology.proofs.map.Map.lifted.Goals as goal
 use Rattle.topology.proofs.map.Map.lifted.Goals.{then-numbers, else-numbers}
 
-pub overflow-sub-nodes : goal.overflow-sub-nodes
-overflow-sub-nodes c = some_node c.args.self c.args.arc c.requires.1.0
+pub overflow_sub-nodes : goal.overflow_sub-nodes
+overflow_sub-nodes c = some_node c.args.self c.args.arc c.requires.1.0
 
 pub assembled-requires : goal.assembled-requires
 assembled-requires c =

@@ -4,4 +4,4 @@ use Rattle.topology.proofs.map.Map.lowest.Goals as goal
 
 pub returns : goal.returns
 returns c =
-    record { value = search rules; lowest = lowest_told c.args.self.now c.args.side c.in-ok-row.row c.in-ok-row.ensures }
+    record { value = search rules; lowest = lowest_told c.args.self.now c.args.side c.in_ok-row.row c.in_ok-row.ensures }

@@ -5,12 +5,12 @@ use Rattle.topology.proofs.InUse.{in_use, long}
 use Rattle.topology.proofs.Lowest.{ring_told_long, ring_none_long}
 use Rattle.topology.proofs.map.Map.ring.Goals as goal
 
-pub returns-in-default : goal.returns-in-default
-returns-in-default c =
+pub returns-in_default : goal.returns-in_default
+returns-in_default c =
     let m = c.args.self.now in
     let us = take m.sides.used m.sides.rows.now in
     ring_none_long us m.sides.used m.in_rings m.low_along m.low_below m.low_names
-    (long m.sides.rows.now m.sides.used m.sides_fit) c.args.k c.in-default.ensures
+    (long m.sides.rows.now m.sides.used m.sides_fit) c.args.k c.in_default.ensures
 
 pub returns : goal.returns
 returns c =

@@ -15,7 +15,7 @@ returns c =
     let us = take m.sides.used m.sides.rows.now in
     let L = lawful_of m in
     let value =
-    c.count-starts.ensures ∙ count_kept us m.sides.used m.in_rings m.low_along m.low_below m.low_names
+    c.count_starts.ensures ∙ count_kept us m.sides.used m.in_rings m.low_along m.low_below m.low_names
     ∙ ap (λ k. length (rings (next_of us) k)) (sym (long m.sides.rows.now m.sides.used m.sides_fit)) in
     let circles = ringed_circles (next_of us) (length us) L.in_rings in
     let order = rings_order (next_of us) (length us) L.in_rings in

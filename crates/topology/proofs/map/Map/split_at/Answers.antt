@@ -7,8 +7,8 @@ use Rattle.topology.proofs.Assembling.{assembled_state, assembled_done}
 use Rattle.topology.proofs.SplitDone.{row_read, row_low, vertex_read, split_fits, split_law, state_done, split_agrees, split_parts, rings_kept}
 use Rattle.topology.proofs.map.Map.split_at.Goals as goal
 
-pub overflow-cast-at-2 : goal.overflow-cast-at-2
-overflow-cast-at-2 c = let (x, y, z) = row_low c.args.self c.args.arc c.args.k c.requires.0 c.requires.1.0 in omega (arith, x, z)
+pub overflow_cast-at-2 : goal.overflow_cast-at-2
+overflow_cast-at-2 c = let (x, y, z) = row_low c.args.self c.args.arc c.args.k c.requires.0 c.requires.1.0 in omega (arith, x, z)
 
 pub bounds-vertices-at : goal.bounds-vertices-at
 bounds-vertices-at c = let (x, y, z) = row_low c.args.self c.args.arc c.args.k c.requires.0 c.requires.1.0 in omega (arith, x, y)

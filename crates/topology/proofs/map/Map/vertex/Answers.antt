@@ -9,7 +9,7 @@ returns c =
     let m = c.args.self.now in
     let t = m.vertices in
     let l = long t.rows.now t.used m.vertices_fit in
-    let s = c.in-ok-first.ensures.stands in
-    let h : c.in-ok-first.first + c.args.k < t.used = omega (arith, l, s.0, s.1) in
-    pick_told _ c.in-ok-first.first c.in-ok-first.last c.args.k (take t.used t.rows.now) _
-    c.in-ok-first.ensures.value (omega arith) (in_use t.rows.now t.used (c.in-ok-first.first + c.args.k) no_vertex h)
+    let s = c.in_ok-first.ensures.stands in
+    let h : c.in_ok-first.first + c.args.k < t.used = omega (arith, l, s.0, s.1) in
+    pick_told _ c.in_ok-first.first c.in_ok-first.last c.args.k (take t.used t.rows.now) _
+    c.in_ok-first.ensures.value (omega arith) (in_use t.rows.now t.used (c.in_ok-first.first + c.args.k) no_vertex h)

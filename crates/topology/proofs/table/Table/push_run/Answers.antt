@@ -5,7 +5,7 @@ use Rattle.topology.proofs.table.Table.push_run.Goals as goal
 pub returns : goal.returns
 returns g c =
     let t = c.args.self in
-    let e = c.copy-from-slice.ensures.after in
+    let e = c.copy_from_slice.ensures.after in
     record {
       used = refl;
       rows = take_put t.rows.now _ c.args.run.now t.used _ e (omega arith) c.requires;
