@@ -7,15 +7,15 @@ use Rattle.listing.proofs.Putting.{put_then}
 use Rattle.listing.proofs.Sizes.{listing_short}
 use Rattle.listing.proofs.put_listing.Goals as goal
 
-pub put-head-first-requires : goal.put-head-first-requires
-put-head-first-requires c =
+pub put_head-first-requires : goal.put_head-first-requires
+put_head-first-requires c =
     let m = state_of c.args.map.now in
     (c.requires, omega (arith, listing_short c.args.map.now, length-append (head_line m) (ring_lines m (rings_of m))))
 
-pub put-rings-requires : goal.put-rings-requires
-put-rings-requires c =
+pub put_rings-requires : goal.put_rings-requires
+put_rings-requires c =
     let m = state_of c.args.map.now in
-    omega (arith, c.put-head-first.ensures.next, listing_short c.args.map.now, length-append (head_line m) (ring_lines m (rings_of m)))
+    omega (arith, c.put_head-first.ensures.next, listing_short c.args.map.now, length-append (head_line m) (ring_lines m (rings_of m)))
 
 pub returns : goal.returns
-returns c = put_then c.put-head-first.ensures c.put-rings.ensures
+returns c = put_then c.put_head-first.ensures c.put_rings.ensures

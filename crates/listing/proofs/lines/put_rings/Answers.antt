@@ -5,14 +5,14 @@ use Rattle.topology.specs.States.{state_of}
 use Rattle.listing.proofs.Putting.{put_as, put_then, put_same}
 use Rattle.listing.proofs.RingLines.{line_from, lines_below, lines_yes, lines_no, lines_front, lines_all}
 use Rattle.listing.proofs.lines.put_rings.Goals as goal
-use Rattle.listing.proofs.lines.put_rings.Goals.{then-starts-ring, else-starts-ring}
+use Rattle.listing.proofs.lines.put_rings.Goals.{then-starts_ring, else-starts_ring}
 
-pub put-ring-to-requires : goal.put-ring-to-requires
-put-ring-to-requires c =
+pub put_ring-to-requires : goal.put_ring-to-requires
+put_ring-to-requires c =
     let m = state_of c.args.map.now in
     let s = c.loop-s.s in
-    let t : tells m.sides s ≡ true = sym c.starts-ring.ensures ∙ c.if-starts-ring.true in
-    let l : s + 1 ≤ length m.sides = omega (arith, c.side-count-s-end.ensures.value, c.loop-s-test.true) in
+    let t : tells m.sides s ≡ true = sym c.starts_ring.ensures ∙ c.if-starts_ring.true in
+    let l : s + 1 ≤ length m.sides = omega (arith, c.side_count-s-end.ensures.value, c.loop-s-test.true) in
     omega (
       arith,
       c.requires,
@@ -27,14 +27,14 @@ pub loop-s-preserved : goal.loop-s-preserved
 loop-s-preserved c =
     let m = state_of c.args.map.now in
     let s = c.loop-s.s in
-    elim c.if-starts-ring.branch [
-      | then-starts-ring w ↦
-          put_as w.out-is w.to-is (put_same (lines_yes m s (sym c.starts-ring.ensures ∙ w.if-starts-ring.true)) (put_then c.loop-s.invariant w.put-ring-to.ensures))
-      | else-starts-ring w ↦ put_as w.out-is w.to-is (put_same (lines_no m s (sym c.starts-ring.ensures ∙ w.if-starts-ring.false)) c.loop-s.invariant)
+    elim c.if-starts_ring.branch [
+      | then-starts_ring w ↦
+          put_as w.out-is w.to-is (put_same (lines_yes m s (sym c.starts_ring.ensures ∙ w.if-starts_ring.true)) (put_then c.loop-s.invariant w.put_ring-to.ensures))
+      | else-starts_ring w ↦ put_as w.out-is w.to-is (put_same (lines_no m s (sym c.starts_ring.ensures ∙ w.if-starts_ring.false)) c.loop-s.invariant)
     ]
 
 pub returns : goal.returns
 returns c =
     let m = state_of c.args.map.now in
-    let e : c.loop-s.s ≡ length m.sides = omega (arith, c.side-count-s-end.ensures.value, c.loop-s-test.false, c.loop-s.auto.s-end) in
+    let e : c.loop-s.s ≡ length m.sides = omega (arith, c.side_count-s-end.ensures.value, c.loop-s-test.false, c.loop-s.auto.s-end) in
     put_same (ap (lines_below m) e ∙ sym (lines_all c.args.map.now)) c.loop-s.invariant

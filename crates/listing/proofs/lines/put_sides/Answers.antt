@@ -8,38 +8,38 @@ use Rattle.listing.proofs.Putting.{put_then, rest_all, rest_same, rest_more, res
 use Rattle.listing.proofs.Walked.{text_back, text_end, text_on}
 use Rattle.listing.proofs.lines.put_sides.Goals as goal
 
-pub put-side-to-requires : goal.put-side-to-requires
-put-side-to-requires c =
+pub put_side-to-requires : goal.put_side-to-requires
+put_side-to-requires c =
     let us = (state_of c.args.map.now).sides in
     rest_room (side_text c.args.start) (sides_text (walk (next_of us) (length us) c.args.start c.args.start)) c.requires (rest_all c.args.out.now c.args.at _)
 
 pub returns-then-side-start : goal.returns-then-side-start
 returns-then-side-start c =
     let us = (state_of c.args.map.now).sides in
-    put_then c.put-side-to.ensures
-    (rest_done (rest_same (text_back (next_of us) (length us - c.loop-i.-i) c.args.start c.loop-i.side c.next-side-side.result c.next-side-side.ensures c.if-side-start.true) c.loop-i.invariant))
+    put_then c.put_side-to.ensures
+    (rest_done (rest_same (text_back (next_of us) (length us - c.loop-i._i) c.args.start c.loop-i.side c.next_side-side.result c.next_side-side.ensures c.if-side-start.true) c.loop-i.invariant))
 
-pub put-side-to-requires-in-loop-i : goal.put-side-to-requires-in-loop-i
-put-side-to-requires-in-loop-i c =
+pub put_side-to-requires-in-loop-i : goal.put_side-to-requires-in-loop-i
+put_side-to-requires-in-loop-i c =
     let us = (state_of c.args.map.now).sides in
     let s = c.args.start in
-    let q = c.next-side-side.result in
-    let l : c.loop-i.-i < length us = omega (arith, c.side-count-i-end.ensures.value, c.loop-i-test.true) in
-    let h : c.put-side-to.result + length (sides_text (walk (next_of us) (length us) s s)) < 2 ^ 64 =
-    omega (arith, c.requires, c.put-side-to.ensures.next, length-append (side_text s) (sides_text (walk (next_of us) (length us) s s))) in
-    rest_room (side_text q) (sides_text (walk (next_of us) (length us - (c.loop-i.-i + 1)) s q)) h
-    (rest_same (text_on (next_of us) (length us) c.loop-i.-i s c.loop-i.side q l c.next-side-side.ensures c.if-side-start.false) c.loop-i.invariant)
+    let q = c.next_side-side.result in
+    let l : c.loop-i._i < length us = omega (arith, c.side_count-i-end.ensures.value, c.loop-i-test.true) in
+    let h : c.put_side-to.result + length (sides_text (walk (next_of us) (length us) s s)) < 2 ^ 64 =
+    omega (arith, c.requires, c.put_side-to.ensures.next, length-append (side_text s) (sides_text (walk (next_of us) (length us) s s))) in
+    rest_room (side_text q) (sides_text (walk (next_of us) (length us - (c.loop-i._i + 1)) s q)) h
+    (rest_same (text_on (next_of us) (length us) c.loop-i._i s c.loop-i.side q l c.next_side-side.ensures c.if-side-start.false) c.loop-i.invariant)
 
 pub loop-i-preserved : goal.loop-i-preserved
 loop-i-preserved c =
     let us = (state_of c.args.map.now).sides in
-    let l : c.loop-i.-i < length us = omega (arith, c.side-count-i-end.ensures.value, c.loop-i-test.true) in
+    let l : c.loop-i._i < length us = omega (arith, c.side_count-i-end.ensures.value, c.loop-i-test.true) in
     rest_more
-    (rest_same (text_on (next_of us) (length us) c.loop-i.-i c.args.start c.loop-i.side c.next-side-side.result l c.next-side-side.ensures c.if-side-start.false) c.loop-i.invariant)
-    c.put-side-to-in-loop-i.ensures
+    (rest_same (text_on (next_of us) (length us) c.loop-i._i c.args.start c.loop-i.side c.next_side-side.result l c.next_side-side.ensures c.if-side-start.false) c.loop-i.invariant)
+    c.put_side-to-in-loop-i.ensures
 
 pub returns : goal.returns
 returns c =
     let us = (state_of c.args.map.now).sides in
-    let l : length us ≤ c.loop-i.-i = omega (arith, c.side-count-i-end.ensures.value, c.loop-i-test.false) in
-    put_then c.put-side-to.ensures (rest_done (rest_same (text_end (next_of us) (length us) c.loop-i.-i c.args.start c.loop-i.side l) c.loop-i.invariant))
+    let l : length us ≤ c.loop-i._i = omega (arith, c.side_count-i-end.ensures.value, c.loop-i-test.false) in
+    put_then c.put_side-to.ensures (rest_done (rest_same (text_end (next_of us) (length us) c.loop-i._i c.args.start c.loop-i.side l) c.loop-i.invariant))
