@@ -4,19 +4,19 @@ use Rattle.decimals.proofs.DigitValues.{step_at, over_at, none_at, digits_end}
 
 pub loop-i-preserved : goal.loop-i-preserved
 loop-i-preserved c = (
-  c.loop-i.invariant.0 ∙ step_at c.loop-i.m c.args.digits.now c.loop-i.i c.loop-i-test.true c.if-not-is-ascii-digit.ensures.cases c.if-next-ge-LIMIT.false,
+  c.loop-i.invariant.0 ∙ step_at c.loop-i.m c.args.digits.now c.loop-i.i c.loop-i-test.true c.if-not-is_ascii_digit.ensures.cases c.if-next-ge-LIMIT.false,
   c.if-next-ge-LIMIT.false,
 )
 
-pub returns-then-not-is-ascii-digit : goal.returns-then-not-is-ascii-digit
-returns-then-not-is-ascii-digit c = record {
-  value = sym (c.loop-i.invariant.0 ∙ none_at c.loop-i.m c.args.digits.now c.loop-i.i c.loop-i-test.true (sym c.if-not-is-ascii-digit.ensures.value));
+pub returns-then-not-is_ascii_digit : goal.returns-then-not-is_ascii_digit
+returns-then-not-is_ascii_digit c = record {
+  value = sym (c.loop-i.invariant.0 ∙ none_at c.loop-i.m c.args.digits.now c.loop-i.i c.loop-i-test.true (sym c.if-not-is_ascii_digit.ensures.value));
   below = tt;
 }
 
 pub returns-then-next-ge-LIMIT : goal.returns-then-next-ge-LIMIT
 returns-then-next-ge-LIMIT c = record {
-  value = sym (c.loop-i.invariant.0 ∙ over_at c.loop-i.m c.args.digits.now c.loop-i.i c.loop-i-test.true c.if-not-is-ascii-digit.ensures.cases c.if-next-ge-LIMIT.true);
+  value = sym (c.loop-i.invariant.0 ∙ over_at c.loop-i.m c.args.digits.now c.loop-i.i c.loop-i-test.true c.if-not-is_ascii_digit.ensures.cases c.if-next-ge-LIMIT.true);
   below = tt;
 }
 
