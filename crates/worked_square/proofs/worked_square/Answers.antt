@@ -18,16 +18,16 @@ returns-then-steps-eq0 c =
       listed = texts;
     }
 
-pub returns-in-err-island : goal.returns-in-err-island
-returns-in-err-island c =
+pub returns-in_err-island : goal.returns-in_err-island
+returns-in_err-island c =
     let o = ap (λ (m : State). island_outcome m 0 c.around.result) c.start-map.ensures.state ∙ ap (λ (vs : List Vertex). island_outcome (square_after 0) 0 vs) c.around.ensures ∙ island_taken in
-    absurd (not_refused c.in-err-island.field-0.0 _ (square_after 1) c.in-err-island.ensures.edited.agrees o)
+    absurd (not_refused c.in_err-island.field-0.0 _ (square_after 1) c.in_err-island.ensures.edited.agrees o)
 
 pub returns : goal.returns
 returns c =
     let out = c.args.out.now in
     let o = ap (λ (m : State). island_outcome m 0 c.around.result) c.start-map.ensures.state ∙ ap (λ (vs : List Vertex). island_outcome (square_after 0) 0 vs) c.around.ensures ∙ island_taken in
-    let is = left_by (state_of c.island.new.self) _ (square_after 1) c.in-ok-island.ensures.edited.agrees o in
+    let is = left_by (state_of c.island.new.self) _ (square_after 1) c.in_ok-island.ensures.edited.agrees o in
     let e = listed_as (state_of c.island.new.self) c.args.steps (is ∙ after_one c.args.steps c.if-steps-eq0.false) in
     record {
       answer = c.list-2.ensures.answer ∙ ap (λ (text : List ℕ). text_outcome text (length out)) e;
