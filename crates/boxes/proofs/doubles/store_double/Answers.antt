@@ -6,4 +6,4 @@ use Rattle.boxes.proofs.StoredBack.{stored_double}
 use Rattle.boxes.proofs.doubles.store_double.Goals as goal
 
 pub returns : goal.returns
-returns c = stored_double c.args.bytes.now c.args.at _ c.args.x _ (search rules) (search rules) (omega arith) (omega arith) (c.copy-from-slice.ensures.after ∙ c.to-le-bytes-raw.ensures ∙ digits_8 (to_bits binary64 c.args.x))
+returns c = stored_double c.args.bytes.now c.args.at _ c.args.x _ (search rules) (search rules) (omega arith) (omega arith) (c.copy_from_slice.ensures.after ∙ c.to_le_bytes-raw.ensures ∙ digits_8 (to_bits binary64 c.args.x))

@@ -9,7 +9,7 @@ pub returns : goal.returns
 returns g c =
     let t = c.args.table.now in
     joined (lines every (line (g.T.RecordTable.place t) (g.T.RecordTable.list_place t)) (g.T.RecordTable.count t))
-    (c.in-ok-text.ensures ∙ ap (head_text c.args.kind c.args.version) c.len.ensures)
-    c.in-ok-push-all.ensures
-    (c.in-ok-foot.ensures ∙ ap foot_text (c.len-2.ensures ∙ sym (tally_every _)))
-    c.in-ok-push-text.ensures
+    (c.in_ok-text.ensures ∙ ap (head_text c.args.kind c.args.version) c.len.ensures)
+    c.in_ok-push_all.ensures
+    (c.in_ok-foot.ensures ∙ ap foot_text (c.len-2.ensures ∙ sym (tally_every _)))
+    c.in_ok-push_text.ensures

@@ -10,7 +10,7 @@ pub returns : goal.returns
 returns g c =
     let t = c.args.table.now in
     joined (lines (λ k. met (g.T.BoxedTable.boxes t k) (edges_of c.args.window.now)) (line (g.T.RecordTable.place t) (g.T.RecordTable.list_place t)) (g.T.RecordTable.count t))
-    (c.in-ok-text.ensures ∙ ap (head_text c.args.kind c.args.version) c.len.ensures)
-    c.in-ok-n.ensures.1
-    (c.in-ok-foot.ensures ∙ ap foot_text c.in-ok-n.ensures.0)
-    c.in-ok-push-text.ensures
+    (c.in_ok-text.ensures ∙ ap (head_text c.args.kind c.args.version) c.len.ensures)
+    c.in_ok-n.ensures.1
+    (c.in_ok-foot.ensures ∙ ap foot_text c.in_ok-n.ensures.0)
+    c.in_ok-push_text.ensures
