@@ -1,6 +1,6 @@
 // The text of an answer.
 #![tactic(auto)]
 
-mod decimals;
+mod coordinates;
 pub mod fault;
 pub mod lines;

@@ -2,7 +2,7 @@ ghost use Rattle.std.specs.Prelude.{◌≡◌, take, IfOk, string_bytes};
 ghost use Rattle.listing.specs.Texts.{counts_line};
 ghost use Rattle.answer_lines.specs.AnswerTexts.{refused_text, ring_text, side_text, arc_text, AnswerText};
 
-use super::decimals::vertex_text;
+use super::coordinates::vertex_text;
 use super::fault::TextFault;
 use calls::answer::Answer;
 use refusal::Refusal;

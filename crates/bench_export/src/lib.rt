@@ -8,7 +8,7 @@ pub mod nests;
 
 use boxes::bounds::Bounds;
 use boxes::edges::Edges;
-use records::kinds::Arcs;
+use records::record_kinds::Arcs;
 use records::records::Records;
 use tables::tables::count_meeting;
 use views::view::View;

@@ -9,7 +9,7 @@ use boxes::bounds::Bounds;
 use boxes::edges::Edges;
 use kinds::kind::Kind;
 use record_report::reports::{report_all, report_found};
-use records::kinds::{BoxedKind, RecordKind};
+use records::record_kinds::{BoxedKind, RecordKind};
 use records::records::Records;
 use refusal::Refusal;
 use std::alloc::{AllocError, Global};

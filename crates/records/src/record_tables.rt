@@ -7,7 +7,7 @@ ghost use Rattle.tables.specs.Handing.{Handed};
 ghost use Rattle.records.specs.Boxing.{box_outcome};
 ghost use Rattle.tables.specs.Windows.{told};
 
-use super::kinds::{BoxedKind, RecordKind};
+use super::record_kinds::{BoxedKind, RecordKind};
 use super::records::Records;
 use super::shape::Shape;
 use boxes::bounds::Bounds;

@@ -1,4 +1,4 @@
-use records::kinds::{Arcs, Nodes, Points, Polygons};
+use records::record_kinds::{Arcs, Nodes, Points, Polygons};
 use records::records::Records;
 
 /// A view of a file, by the kind of its records.

@@ -2,11 +2,11 @@ use Rattle.std.proofs.Common.{rules}
 use Rattle.record_request.proofs.+read_options.Goals as goal
 use Rattle.record_request.proofs.Steps.{none_left, window_fault, window_joined}
 
-pub returns-in-default : goal.returns-in-default
-returns-in-default t c = none_left _ _ c.args.words.now c.in-default.ensures.cases
+pub returns-in_default : goal.returns-in_default
+returns-in_default t c = none_left _ _ c.args.words.now c.in_default.ensures.cases
 
-pub returns-in-Ok-window-option : goal.returns-in-Ok-window-option
-returns-in-Ok-window-option t c = search (rules, window_joined)
+pub returns-in-Ok-window_option : goal.returns-in-Ok-window_option
+returns-in-Ok-window_option t c = search (rules, window_joined)
 
-pub returns-in-Err-window-option : goal.returns-in-Err-window-option
-returns-in-Err-window-option t c = search (rules, window_fault)
+pub returns-in-Err-window_option : goal.returns-in-Err-window_option
+returns-in-Err-window_option t c = search (rules, window_fault)

@@ -22,22 +22,22 @@ returns-in-Some c =
     let ws = texts c.args.words.now in
     fits (λ k. Lift k) LiftCall _ ws (one ws) c.in-Some.arc _ c.in-LiftCall.is refl c.in-Some.ensures (record { call = refl; run = no_run })
 
-pub returns-in-Some-one-number : goal.returns-in-Some-one-number
-returns-in-Some-one-number c =
+pub returns-in-Some-one_number : goal.returns-in-Some-one_number
+returns-in-Some-one_number c =
     let ws = texts c.args.words.now in
-    fits (λ k. Ring k) RingCall _ ws (one ws) c.in-Some-one-number.ring _ c.in-RingCall.is refl c.in-Some-one-number.ensures (record { call = refl; run = no_run })
+    fits (λ k. Ring k) RingCall _ ws (one ws) c.in-Some-one_number.ring _ c.in-RingCall.is refl c.in-Some-one_number.ensures (record { call = refl; run = no_run })
 
-pub returns-in-Some-one-number-2 : goal.returns-in-Some-one-number-2
-returns-in-Some-one-number-2 c =
+pub returns-in-Some-one_number-2 : goal.returns-in-Some-one_number-2
+returns-in-Some-one_number-2 c =
     let ws = texts c.args.words.now in
-    fits (λ k. Side k) SideCall _ ws (one ws) c.in-Some-one-number-2.side _ c.in-SideCall.is refl c.in-Some-one-number-2.ensures (record { call = refl; run = no_run })
+    fits (λ k. Side k) SideCall _ ws (one ws) c.in-Some-one_number-2.side _ c.in-SideCall.is refl c.in-Some-one_number-2.ensures (record { call = refl; run = no_run })
 
-pub returns-in-Some-one-number-3 : goal.returns-in-Some-one-number-3
-returns-in-Some-one-number-3 c =
+pub returns-in-Some-one_number-3 : goal.returns-in-Some-one_number-3
+returns-in-Some-one_number-3 c =
     let ws = texts c.args.words.now in
-    fits (λ k. Arc k) ArcCall _ ws (one ws) c.in-Some-one-number-3.arc _ c.in-ArcCall.is refl c.in-Some-one-number-3.ensures (record { call = refl; run = no_run })
+    fits (λ k. Arc k) ArcCall _ ws (one ws) c.in-Some-one_number-3.arc _ c.in-ArcCall.is refl c.in-Some-one_number-3.ensures (record { call = refl; run = no_run })
 
-pub returns-in-Some-two-numbers : goal.returns-in-Some-two-numbers
-returns-in-Some-two-numbers c =
+pub returns-in-Some-two_numbers : goal.returns-in-Some-two_numbers
+returns-in-Some-two_numbers c =
     let ws = texts c.args.words.now in
-    fits (λ a. Vertex a.0 a.1) VertexCall _ ws (two ws) (c.in-Some-two-numbers.arc, c.in-Some-two-numbers.vertex) _ c.in-VertexCall.is refl c.in-Some-two-numbers.ensures (record { call = refl; run = no_run })
+    fits (λ a. Vertex a.0 a.1) VertexCall _ ws (two ws) (c.in-Some-two_numbers.arc, c.in-Some-two_numbers.vertex) _ c.in-VertexCall.is refl c.in-Some-two_numbers.ensures (record { call = refl; run = no_run })

@@ -6,10 +6,10 @@ pub returns-in-Some-2 : goal.returns-in-Some-2
 returns-in-Some-2 c =
     let ws = texts c.args.words.now in
     let vs = texts c.after.result.now in
-    island_fits ws vs c.in-Some.polygon c.in-ok-run.field-0 c.in-Some-2.run' (island_words ws vs _ c.in-Some.ensures c.after.ensures) c.in-Some-2.is c.in-ok-run.ensures
+    island_fits ws vs c.in-Some.polygon c.in_ok-run.field-0 c.in-Some-2.run' (island_words ws vs _ c.in-Some.ensures c.after.ensures) c.in-Some-2.is c.in_ok-run.ensures
 
 pub returns-in-None : goal.returns-in-None
 returns-in-None c =
     let ws = texts c.args.words.now in
     let vs = texts c.after.result.now in
-    island_unfit ws vs c.in-Some.polygon c.in-ok-run.field-0 (island_words ws vs _ c.in-Some.ensures c.after.ensures) c.in-None.is c.in-ok-run.ensures
+    island_unfit ws vs c.in-Some.polygon c.in_ok-run.field-0 (island_words ws vs _ c.in-Some.ensures c.after.ensures) c.in-None.is c.in_ok-run.ensures

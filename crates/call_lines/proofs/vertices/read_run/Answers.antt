@@ -5,17 +5,17 @@ use Rattle.call_lines.specs.Spoken.{is_vertex, coordinates, Written}
 use Rattle.call_lines.proofs.VertexWords.{passes_all, fails_one, run_turn}
 use Rattle.call_lines.proofs.vertices.read_run.Goals as goal
 
-pub returns-in-default : goal.returns-in-default
-returns-in-default c =
+pub returns-in_default : goal.returns-in_default
+returns-in_default c =
     let ws = texts c.args.words.now in
-    let e : is_vertex (word ws c.loop-i.i) ≡ false = ap is_vertex (sym c.text-at.ensures) ∙ c.in-default.ensures in
+    let e : is_vertex (word ws c.loop-i.i) ≡ false = ap is_vertex (sym c.text_at.ensures) ∙ c.in_default.ensures in
     fails_one is_vertex ws _ c.loop-i.i (omega (arith, length-map c.args.words.now string_bytes)) e
 
 pub loop-i-preserved : goal.loop-i-preserved
 loop-i-preserved c =
     let ws = texts c.args.words.now in
     run_turn ws (vec_items c.loop-i.vertices) (vec_items c.push.new.self) c.in-Some.v c.loop-i.i c.loop-i.invariant.0 c.loop-i.invariant.1 (search rules)
-    (subst (λ w. (is_vertex w ≡ true) × Written (coordinates w) c.in-Some.v) c.text-at.ensures c.in-Some.ensures)
+    (subst (λ w. (is_vertex w ≡ true) × Written (coordinates w) c.in-Some.v) c.text_at.ensures c.in-Some.ensures)
 
 pub returns : goal.returns
 returns c =
