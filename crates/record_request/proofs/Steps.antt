@@ -80,6 +80,3 @@ one_word {Z = Z} ws x others e n = subst (λ (l : List (String Z)). Answers (ask
     at : (l : List (String Z)) → length l ≡ 0 → Answers (asked (texts (x ∷ l))) (Err Usage)
     at [] i = refl
     at (y ∷ l) i = absurd (omega (arith, i))
-
-pub told_same : (x name : List ℕ) (r : Bool) → Decides r (x ≡ name) → r ≡ bytes_eq x name
-told_same x name r h = search (rules, bytes_eq-Decides)
