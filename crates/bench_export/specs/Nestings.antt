@@ -1,5 +1,5 @@
 -- The listing of a map of nested islands, for a caller in another language.
-use Rattle.std.specs.Prelude.{ℕ, zero, suc, false, List, [], ◌∷◌, length, pos, Ok, Err, Result, Float}
+use Rattle.std.specs.Prelude.{ℕ, zero, suc, false, List, [], ◌∷◌, pos, Ok, Err, Result, Float}
 use Rattle.std.specs.Float.{fin}
 use Rattle.refusal.specs.declared.Refusal.{Refusal}
 use Rattle.topology.specs.declared.vertex.Vertex.{Vertex}

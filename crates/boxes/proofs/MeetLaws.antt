@@ -1,11 +1,11 @@
 -- Two boxes pass the test exactly if they have a place in common.
-use Rattle.std.proofs.Common.{◌≡◌, Bool, true, false, ◌&&◌, sym, refl, ap, ◌∙◌, subst}
+use Rattle.std.proofs.Common.{◌≡◌, Bool, true, false, ◌&&◌, refl}
 use lib.Ieee.{Float, lt, le}
 use Rattle.std.specs.Float.{float_is_finite}
 use Rattle.boxes.proofs.Order.{le_from_not_lt, le_trans, lt_one_way, lt_self, clash}
 use Rattle.boxes.specs.declared.bounds.Bounds.{Bounds}
 use Rattle.boxes.specs.Fairs.{fair}
-use Rattle.boxes.specs.Boxes.{edges_of, meets, Inside, Share}
+use Rattle.boxes.specs.Boxes.{edges_of, meets, Share}
 
 and_parts : (p q : Bool) → (p && q) ≡ true → (p ≡ true) × (q ≡ true)
 and_parts true q h = (refl, h)

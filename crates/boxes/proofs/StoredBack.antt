@@ -1,5 +1,5 @@
 -- A finite double goes into its bytes and comes back.
-use Rattle.std.proofs.Common.{◌≡◌, ℕ, ◌+◌, ◌^◌, ◌<◌, ◌≤◌, true, T, List, length, drop, sym, refl, ap, ◌∙◌, subst, arith}
+use Rattle.std.proofs.Common.{◌≡◌, ℕ, ◌+◌, ◌^◌, ◌<◌, ◌≤◌, true, T, List, length, drop, sym, ap, ◌∙◌, subst}
 use borrow.Rule.Slice.PartMut.{put_mid}
 use lib.Ieee.{Float, binary64, of_bits, to_bits, fits}
 use lib.Ieee.Bits.{of_bits-to_bits, to_bits-lt}
@@ -8,7 +8,7 @@ use Rattle.std.specs.List.{AllByRecursion as All}
 use Rattle.std.proofs.ByRecursion.{All-take, All-drop}
 use Rattle.media.specs.Runs.{run, overwrite}
 use Rattle.media.proofs.RunLaws.{length_run}
-use Rattle.editions.specs.Numbers.{little, digits, number_at}
+use Rattle.editions.specs.Numbers.{little, digits}
 use Rattle.boxes.specs.Doubles.{double_at, double_bytes, BitForBit}
 use Rattle.editions.proofs.DigitLaws.{digits_little, little_lt, stored_number}
 use Rattle.boxes.proofs.Order.{toBits_back}

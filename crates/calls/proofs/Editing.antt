@@ -1,5 +1,5 @@
 -- An edit, as a call that was played.
-use Rattle.std.proofs.Common.{◌≡◌, ℕ, List, Ok, Err, Result, sym, refl, ap, ◌∙◌, subst}
+use Rattle.std.proofs.Common.{◌≡◌, ℕ, List, Ok, Err, Result, sym, ap, ◌∙◌, subst}
 use Rattle.refusal.specs.declared.Refusal.{Refusal}
 use Rattle.topology.specs.declared.map.Map.{Map}
 use Rattle.topology.specs.declared.vertex.Vertex.{Vertex}
@@ -7,8 +7,8 @@ use Rattle.topology.specs.States.{State, state_of}
 use Rattle.topology.specs.Edited.{Edited}
 use Rattle.calls.specs.declared.call.Call.{Call}
 use Rattle.calls.specs.declared.answer.Answer.{Answer}
-use Rattle.calls.specs.declared.answer.Answer.TheVariants.{Done, Refused}
-use Rattle.calls.specs.Outcomes.{Outcome, Keeps, edit, told, outcome, Played}
+use Rattle.calls.specs.declared.answer.Answer.TheVariants.{Refused}
+use Rattle.calls.specs.Outcomes.{edit, told, outcome, Played}
 
 module _ (c : Call (List Vertex)) (f : State → Result State Refusal) (was is : Map) (text : List ℕ) (same : outcome c (state_of was) text ≡ edit (state_of was) text (f (state_of was))) where
   taken : (r : Result (Unit {0}) Refusal) → Edited f was is r → Played c was is text text (told r)

@@ -1,12 +1,12 @@
 -- Digits, in one run or cut by a point.
-use Rattle.std.proofs.Common.{◌≡◌, ℕ, zero, suc, ◌+◌, ◌-◌, ◌*◌, ◌^◌, ◌<◌, ◌≤◌, Bool, true, false, cond, ◌&&◌, eqb, ltb, leb, ◌⊎◌, List, [], ◌∷◌, ◌++◌, length, get_or, take, drop, Some, None, Option, sym, refl, ap, ◌∙◌, subst, inl, inr, add-one, arith, drop_of_length-le, drop-cons}
+use Rattle.std.proofs.Common.{◌≡◌, ℕ, suc, ◌+◌, ◌-◌, ◌*◌, ◌^◌, ◌<◌, ◌≤◌, Bool, true, false, ◌&&◌, eqb, ltb, leb, List, [], ◌∷◌, ◌++◌, length, get_or, take, drop, Some, None, sym, refl, ap, ◌∙◌, subst, inl, inr, add-one, arith, drop_of_length-le, drop-cons}
 use Rattle.std.specs.Str.Parse.{digits_value_after}
 use Rattle.std.specs.Char.{digit_value, is_ascii_digit}
 use Rattle.std.specs.Int.{IsInRange}
 use Rattle.std.specs.Str.{all_ascii_digits}
 use Rattle.std.proofs.lemmas.Bool.{cases_Bool, and_cases, and_parts, ltb-true, ltb-false, le-ltb, lt-ltb, le-leb, and_from, eq-eqb, ne_eqb}
 use Rattle.std.proofs.lemmas.Str.{digit_value_digit}
-use Rattle.decimals.specs.Plain.{before_point, after_point, digits_of, some_if, digits_after, with_places, plain, Few}
+use Rattle.decimals.specs.Plain.{before_point, after_point, some_if, digits_after}
 
 drop_step : (xs : List ℕ) (i : ℕ) → i < length xs → drop i xs ≡ get_or xs i 0 ∷ drop (i + 1) xs
 drop_step xs i l = drop-cons xs i 0 l ∙ ap (λ k. get_or xs i 0 ∷ drop k xs) (sym (add-one i))

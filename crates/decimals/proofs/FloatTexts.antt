@@ -1,5 +1,5 @@
 -- A plain text is one that Rust's `parse` reads as a float.
-use Rattle.std.proofs.Common.{◌≡◌, ℕ, ◌^◌, ◌<◌, Bool, true, false, cond, ◌&&◌, ◌||◌, eqb, ltb, leb, List, [], ◌∷◌, ◌++◌, length, Some, None, Option, sym, refl, ap, ◌∙◌, subst, inl, inr, arith}
+use Rattle.std.proofs.Common.{◌≡◌, ℕ, ◌^◌, ◌<◌, Bool, true, false, ◌&&◌, ◌||◌, eqb, ltb, List, [], ◌∷◌, ◌++◌, length, Some, None, Option, sym, refl, subst, inl, inr, arith}
 use lib.Ieee.{Float}
 use Rattle.std.specs.Float.Parse.{float_scan_step, completes_number, without_sign, is_float_text}
 use Rattle.std.specs.Str.Parse.{digits_value_after, starts_with_minus}
@@ -7,7 +7,7 @@ use Rattle.std.specs.Char.{is_ascii_digit}
 use Rattle.std.specs.Str.{all_ascii_digits}
 use Rattle.std.proofs.lemmas.Bool.{cases_Bool, and_parts, ltb-true, eqb-true, or_left, or_cases}
 use Rattle.std.proofs.lemmas.List.{length-append}
-use Rattle.decimals.specs.Plain.{before_point, after_point, digits_of, some_if, digits_after, with_places, is_short, plain, nearest_double, plain_of}
+use Rattle.decimals.specs.Plain.{before_point, after_point, digits_of, some_if, with_places, is_short, plain, nearest_double, plain_of}
 
 in_fraction : (ds : List ℕ) → all_ascii_digits ds ≡ true → completes_number 3 ds ≡ true
 in_fraction [] e = refl

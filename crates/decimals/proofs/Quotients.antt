@@ -1,7 +1,7 @@
 -- A quotient of two whole numbers that doubles hold is rounded once.
-use Rattle.std.proofs.Common.{◌≡◌, ℕ, zero, suc, ◌+◌, ◌*◌, ◌^◌, ◌<◌, ◌≤◌, Bool, true, false, cond, not, eqb, ltb, ℤ, pos, negsuc, sym, refl, ap, ◌∙◌, subst, lt_of_lt_of_le, lt_of_le_of_lt, mul_assoc, mul_comm, mul-lt-mul_of_pos_right, mul-pos, pow-suc, zero-mul, mul-one, mul_left_comm, arith, lit<, lit≤, pow_pos}
+use Rattle.std.proofs.Common.{◌≡◌, ℕ, zero, suc, ◌+◌, ◌*◌, ◌^◌, ◌<◌, ◌≤◌, Bool, true, false, cond, eqb, ltb, ℤ, pos, negsuc, sym, refl, ap, ◌∙◌, lt_of_lt_of_le, lt_of_le_of_lt, mul_assoc, mul_comm, mul-lt-mul_of_pos_right, mul-pos, pow-suc, zero-mul, mul-one, arith, lit<, lit≤, pow_pos}
 use native.Mathlib.Nat.{pow-le-pow_right}
-use lib.Ieee.{Float, nan, inf, fin, Format, binary64, prec, emax, low, up, down, odd, units, round, of_int, div, neg, unlike}
+use lib.Ieee.{Float, nan, inf, fin, Format, binary64, prec, emax, low, up, down, odd, units, round, of_int, div, neg}
 use lib.Ieee.Exact.{HasValue, round_exact}
 use lib.Ieee.Scale.{round_same}
 use Rattle.std.proofs.lemmas.Bool.{ne_eqb}

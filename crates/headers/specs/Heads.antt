@@ -1,12 +1,10 @@
 -- The header of a file, and when it is refused.
-use Rattle.std.specs.Prelude.{ℕ, ◌+◌, Bool, true, false, cond, List, length, Some, None, Ok, Err, Option, Result, nat_le, slice_index}
+use Rattle.std.specs.Prelude.{ℕ, ◌+◌, cond, List, length, Some, None, Ok, Err, Option, Result, nat_le, slice_index}
 use Rattle.refusal.specs.declared.Refusal.{Refusal}
 use Rattle.refusal.specs.declared.Refusal.TheVariants.{PastEnd, OtherKind, OtherVersion}
 use Rattle.layout.specs.declared.version.Version.{Version}
-use Rattle.layout.specs.declared.version.Version.TheVariants.{V11, V20}
 use Rattle.kinds.specs.declared.kind.Kind.{Kind}
 use Rattle.headers.specs.declared.header.Header.{Header}
-use Rattle.bits.specs.declared.Flags.{Flags}
 use Rattle.editions.specs.Numbers.{number_at}
 use Rattle.boxes.specs.Boxes.{edges_at}
 use Rattle.kinds.specs.Sizes.{header_size}

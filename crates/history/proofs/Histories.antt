@@ -1,7 +1,7 @@
 -- The law over all lists of calls.
-use Rattle.std.proofs.Common.{◌≡◌, ℕ, ◌+◌, ◌*◌, ◌<◌, true, List, [], ◌∷◌, length, Ok, Err, Result, sym, refl, ap, ◌∙◌, subst, arith}
+use Rattle.std.proofs.Common.{◌≡◌, ℕ, ◌*◌, List, [], ◌∷◌, length, Ok, Err, Result, sym, refl, ap, ◌∙◌, subst, arith}
 use Rattle.refusal.specs.declared.Refusal.{Refusal}
-use Rattle.rings.specs.Circles.{rings, meets}
+use Rattle.rings.specs.Circles.{rings}
 use Rattle.rings.specs.Law.{opp}
 use Rattle.rings.proofs.Ringed.{ringed_circles}
 use Rattle.rings.proofs.Words.{rings_order, turn_meets}
@@ -23,7 +23,7 @@ use Rattle.calls.specs.declared.call.Call.{Call}
 use Rattle.calls.specs.declared.call.Call.TheVariants.{Island, Lift, Split, Divide, Dissolve, List as Listing, Counts, Ring, Side, Arc, Vertex as VertexOf}
 use Rattle.calls.specs.Outcomes.{edit}
 use Rattle.history.specs.Runs.{World, after, replayed}
-use Rattle.history.specs.Law.{InOrder, islands_by, lifts_by, islands, lifts, Lasts, HistoryLaw}
+use Rattle.history.specs.Law.{InOrder, islands_by, lifts_by, islands, lifts, HistoryLaw}
 
 -- the law, in words
 pub in_order : (m : State) → Stands m → InOrder m

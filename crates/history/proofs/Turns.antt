@@ -1,5 +1,5 @@
 -- One turn of a loop over calls, and its end, over what is left to do.
-use Rattle.std.proofs.Common.{◌≡◌, ℕ, ◌+◌, ◌<◌, ◌≤◌, List, [], ◌∷◌, ◌++◌, length, get_or, take, drop, set, sym, refl, ap, ◌∙◌, arith}
+use Rattle.std.proofs.Common.{◌≡◌, ℕ, ◌+◌, ◌<◌, ◌≤◌, List, [], ◌∷◌, ◌++◌, length, get_or, take, drop, set, arith}
 use Rattle.std.proofs.lemmas.List.{at_drop_more, at_drop_all, take_more_set, drop-set-lt, drop-drop, append_assoc, append-nil, take-append-drop}
 use Rattle.topology.specs.declared.vertex.Vertex.{Vertex}
 use Rattle.calls.specs.declared.call.Call.{Call}

@@ -1,5 +1,5 @@
 -- Which words of a command line start which blank map.
-use Rattle.std.specs.Prelude.{ℕ, Bool, cond, List, [], ◌∷◌, Some, None, Ok, Err, codes, Option, Result}
+use Rattle.std.specs.Prelude.{ℕ, cond, List, [], ◌∷◌, Some, None, Ok, Err, codes, Option, Result}
 use Rattle.std.specs.Str.{bytes_eq}
 use Rattle.topology.specs.declared.hand.Hand.{Hand}
 use Rattle.topology.specs.declared.hand.Hand.TheVariants.{Right, Left}

@@ -1,8 +1,8 @@
 -- The bytes of words, and the words of a line.
-use Rattle.std.proofs.Common.{◌≡◌, ℕ, zero, suc, ◌-◌, ◌<◌, ◌≤◌, List, [], ◌∷◌, ◌++◌, length, get_or, take, drop, string_bytes, String, sym, refl, ap, ◌∙◌, arith, drop_of_length-le}
+use Rattle.std.proofs.Common.{◌≡◌, ℕ, ◌-◌, ◌<◌, ◌≤◌, List, [], ◌∷◌, ◌++◌, length, get_or, take, drop, string_bytes, String, sym, refl, ap, ◌∙◌, arith, drop_of_length-le}
 use Rattle.std.specs.Str.Iter.{LacksByte}
 use Rattle.std.proofs.lemmas.List.{get_or-map, get_or_past, length-map, append_assoc, map_push, drop-map, take_rest}
-use Rattle.line_words.specs.LineWords.{texts, word, join, pieces, filled, words_of}
+use Rattle.line_words.specs.LineWords.{texts, word, join, filled, words_of}
 use Rattle.line_words.proofs.Parts.{pieces_alone, pieces_parted}
 
 pub word_there : {Z : Type 0} (ws : List (String Z)) (k : ℕ) (x : String Z) → k < length ws → x ≡ get_or ws k x → string_bytes x ≡ word (texts ws) k

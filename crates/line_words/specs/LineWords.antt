@@ -1,5 +1,5 @@
 -- Words, and the words of a line, by their bytes.
-use Rattle.std.specs.Prelude.{ℕ, Bool, true, false, cond, ◌&&◌, List, [], ◌∷◌, map, string_bytes, String, ◌==◌, slice_index_or}
+use Rattle.std.specs.Prelude.{ℕ, cond, List, [], ◌∷◌, map, string_bytes, String, ◌==◌, slice_index_or}
 
 abbrev pub texts : {Z : Type 0} → List (String Z) → List (List ℕ)
 texts ws = map string_bytes ws

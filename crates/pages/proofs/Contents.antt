@@ -1,10 +1,10 @@
 -- What the listed pages hold, and what one store leaves.
-use Rattle.std.proofs.Common.{◌≡◌, ℕ, ◌+◌, ◌*◌, ◌/◌, ◌%◌, ◌<◌, ◌≤◌, ◌≢◌, List, [], ◌∷◌, length, get_or, take, set, sym, refl, ap, ◌∙◌, inl, inr, ⊎_elim, arith}
+use Rattle.std.proofs.Common.{◌≡◌, ℕ, ◌+◌, ◌*◌, ◌/◌, ◌%◌, ◌<◌, ◌≤◌, ◌≢◌, List, [], length, get_or, take, set, sym, ap, ◌∙◌, ⊎_elim, arith}
 use Rattle.std.proofs.lemmas.List.{ext_get_or, get_or-set_same, get_or-set_other, length-set, get_or-take, get_or-drop}
 use Rattle.std.proofs.lemmas.List.FromFn.{length-map-range_with_len, get_or-map-range_with_len}
 use Rattle.std.proofs.lemmas.Bool.{cases_eq}
 use Rattle.media.specs.Runs.{run, overwrite}
-use Rattle.media.proofs.RunLaws.{overwrite_more, overwrite_none, length_run}
+use Rattle.media.proofs.RunLaws.{overwrite_more, length_run}
 use Rattle.pages.specs.Paging.{Below, Apart, byte_at, stored, content}
 
 pub length_content : (pages : List (List ℕ)) (ps : List ℕ) (n : ℕ) → length (content pages ps n) ≡ 512 * n

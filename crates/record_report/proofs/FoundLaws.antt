@@ -1,10 +1,10 @@
 -- The turn and the end of a loop that goes from one record that meets a window to the next.
-use Rattle.std.proofs.Common.{◌≡◌, ℕ, ◌+◌, ◌<◌, ◌≤◌, Bool, true, false, List, ◌++◌, Some, None, Result, sym, refl, ap, ◌∙◌, arith}
+use Rattle.std.proofs.Common.{◌≡◌, ℕ, ◌+◌, ◌≤◌, Bool, List, ◌++◌, Some, None, Result, sym, ap, ◌∙◌}
 use Rattle.refusal.specs.declared.Refusal.{Refusal}
 use Rattle.boxes.specs.declared.edges.Edges.{Edges}
 use Rattle.boxes.specs.declared.bounds.Bounds.{Bounds}
 use Rattle.boxes.specs.Boxes.{edges_of}
-use Rattle.tables.specs.Windows.{Meeting, met, Lowest, tally}
+use Rattle.tables.specs.Windows.{met, Lowest, tally}
 use Rattle.tables.proofs.MetLaws.{met_from_meeting}
 use Rattle.tables.proofs.CountLaws.{none_between, count_turn, count_end}
 use Rattle.record_report.specs.Reports.{lines}

@@ -1,14 +1,10 @@
 -- How the options go on after the first.
-use Rattle.std.proofs.Common.{◌≡◌, ℕ, zero, suc, ◌<◌, ◌≤◌, Bool, true, false, cond, not, ◌&&◌, ltb, List, [], ◌∷◌, map, length, get_or, drop, Some, None, Ok, Err, string_bytes, codes, Decides, Option, Result, String, sym, refl, ap, ◌∙◌, subst, inl, inr, arith, rules}
+use Rattle.std.proofs.Common.{◌≡◌, ℕ, zero, suc, ◌<◌, ◌≤◌, Bool, true, false, List, [], ◌∷◌, length, get_or, drop, Some, None, Ok, Err, string_bytes, codes, Option, Result, String, sym, refl, ap, ◌∙◌, subst, arith}
 use Rattle.std.specs.Float.Parse.{is_float_text}
-use Rattle.std.specs.Str.{bytes_eq}
-use Rattle.std.proofs.lemmas.Slice.Eq.{bytes_eq-Decides}
 use Rattle.std.proofs.lemmas.List.{get_or-map, get_or_past, length-map}
-use Rattle.std.proofs.lemmas.Bool.{cases_Bool, and_from, cond-true, cond-false}
 use Rattle.boxes.specs.declared.edges.Edges.{Edges}
-use Rattle.words.specs.Words.{Decimal}
 use Rattle.record_request.specs.declared.Fault.{Fault}
-use Rattle.record_request.specs.declared.Fault.TheVariants.{Usage, Letter, Arcs, Window, NoBoxes}
+use Rattle.record_request.specs.declared.Fault.TheVariants.{Usage}
 use Rattle.record_request.specs.declared.Options.{Options}
 use Rattle.record_request.specs.Requests.{texts, word, Corners, Given, corners, arcs_option, with_arcs, with_window, is_new, options, Drawn, WindowGiven, Gives, asked, Answers}
 

@@ -1,12 +1,11 @@
 -- The boxes of records.
-use Rattle.std.specs.Prelude.{◌≡◌, ℕ, zero, suc, ◌+◌, ◌<◌, ◌≤◌, Bool, true, false, cond, ◌&&◌, List, Some, None, Ok, Err, Option, Result}
+use Rattle.std.specs.Prelude.{ℕ, cond, List, Ok, Err, Result}
 use Rattle.refusal.specs.declared.Refusal.{Refusal}
 use Rattle.refusal.specs.declared.Refusal.TheVariants.{UnfitBox}
 use Rattle.media.specs.Runs.{run}
 use Rattle.kinds.specs.declared.kind.Kind.{Kind}
 use Rattle.boxes.specs.declared.edges.Edges.{Edges}
-use Rattle.boxes.specs.declared.bounds.Bounds.{Bounds}
-use Rattle.boxes.specs.Boxes.{fair_edges, edges_of, meets, Share}
+use Rattle.boxes.specs.Boxes.{fair_edges}
 use Rattle.records.specs.declared.shape.Shape.{Shape}
 use Rattle.records.specs.Parts.{record_outcome}
 

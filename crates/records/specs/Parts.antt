@@ -1,10 +1,9 @@
 -- Where records and their lists lie. A part of a file is told by its place and its length; sums and products are exact.
-use Rattle.std.specs.Prelude.{ℕ, ◌+◌, ◌*◌, cond, List, length, Ok, Err, Result, nat_lt}
+use Rattle.std.specs.Prelude.{ℕ, ◌+◌, ◌*◌, cond, List, Ok, Err, Result, nat_lt}
 use Rattle.refusal.specs.declared.Refusal.{Refusal}
-use Rattle.refusal.specs.declared.Refusal.TheVariants.{PastEnd, NoSuchElement}
+use Rattle.refusal.specs.declared.Refusal.TheVariants.{NoSuchElement}
 use Rattle.kinds.specs.declared.kind.Kind.{Kind}
 use Rattle.kinds.specs.declared.kind.Kind.TheVariants.{Points, Arcs, Nodes, Polygons}
-use Rattle.layout.specs.declared.version.Version.{Version}
 use Rattle.editions.specs.Numbers.{number_at}
 use Rattle.kinds.specs.Sizes.{record_size, entry_size}
 use Rattle.layout.specs.Versions.{width}

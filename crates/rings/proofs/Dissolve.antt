@@ -1,15 +1,15 @@
 -- DISSOLVE keeps the law, where the arc is the highest and its two sides have one polygon.
-use Rattle.std.proofs.Common.{◌≡◌, ℕ, zero, suc, ◌+◌, ◌-◌, ◌*◌, ◌%◌, ◌<◌, ◌≤◌, Bool, true, false, cond, eqb, ltb, ◌⊎◌, List, [], ◌∷◌, ◌++◌, length, sym, refl, ap, ◌∙◌, subst, inl, inr, arith}
-use Rattle.std.proofs.lemmas.Bool.{cases_eq, cases_lt, both_ways}
+use Rattle.std.proofs.Common.{◌≡◌, ℕ, suc, ◌%◌, ◌<◌, false, List, length, sym, ap, ◌∙◌, inl, inr, arith}
+use Rattle.std.proofs.lemmas.Bool.{cases_eq, both_ways}
 use Rattle.std.proofs.lemmas.Bool.Decides.{nat_tests}
-use Rattle.rings.specs.Circles.{one_if, occ, occs, Circles, names, put, rings, meets, Undivided}
+use Rattle.rings.specs.Circles.{Circles, put, rings, meets, Undivided}
 use Rattle.rings.specs.Law.{opp, turn, Closes, Along, Noded, Ringed}
 use Rattle.rings.specs.Edits.{dissolve_next}
 use Rattle.rings.proofs.Listing.{listed}
 use Rattle.rings.proofs.Ringed.{ringed_circles, circles_ringed}
-use Rattle.rings.proofs.Closed.{within, one_image, meets_next, meets_sym, meets_self}
+use Rattle.rings.proofs.Closed.{one_image, meets_next, meets_sym, meets_self}
 use Rattle.rings.proofs.Links.{put_same, put_other}
-use Rattle.rings.proofs.Undo.{Fewer, dissolved, TwoLess, two_out}
+use Rattle.rings.proofs.Undo.{dissolved, TwoLess, two_out}
 use Rattle.rings.proofs.Split.{opp_low, opp_opp, opp_new, opp_top}
 
 module _ (f : ℕ → ℕ) (n p q : ℕ) (ep : f p ≡ n) (eq : f q ≡ suc n) where

@@ -1,13 +1,13 @@
 -- DIVISION keeps the law.
-use Rattle.std.proofs.Common.{◌≡◌, ℕ, zero, suc, ◌+◌, ◌-◌, ◌*◌, ◌%◌, ◌<◌, ◌≤◌, Bool, true, false, cond, eqb, ltb, ◌⊎◌, List, [], ◌∷◌, ◌++◌, length, sym, refl, ap, ◌∙◌, subst, inl, inr, arith}
+use Rattle.std.proofs.Common.{◌≡◌, ℕ, suc, ◌+◌, ◌%◌, ◌<◌, Bool, true, cond, List, length, sym, ap, ◌∙◌, subst, inl, inr, arith}
 use Rattle.std.proofs.lemmas.Bool.{cases_eq, cases_lt}
 use Rattle.std.proofs.lemmas.Bool.Decides.{nat_tests}
-use Rattle.rings.specs.Circles.{one_if, occ, occs, Circles, names, put, rings, meets, TwoIn, Divided}
+use Rattle.rings.specs.Circles.{Circles, put, rings, meets, TwoIn, Divided}
 use Rattle.rings.specs.Law.{opp, turn, Closes, Along, Noded, Ringed}
 use Rattle.rings.specs.Edits.{divide_next, divide_node, divide_polygon}
 use Rattle.rings.proofs.Chains.{chain_label}
 use Rattle.rings.proofs.Occurs.{below_one}
-use Rattle.rings.proofs.Surgery.{InOne, in_one}
+use Rattle.rings.proofs.Surgery.{in_one}
 use Rattle.rings.proofs.Listing.{listed}
 use Rattle.rings.proofs.Ringed.{ringed_circles, circles_ringed}
 use Rattle.rings.proofs.Closed.{within, meets_next}

@@ -1,8 +1,8 @@
 -- JOIN, the inverse of a split: what it makes of the rings and the turns. The arc that goes is the highest.
-use Rattle.std.proofs.Common.{◌≡◌, ℕ, zero, suc, ◌+◌, ◌-◌, ◌*◌, ◌%◌, ◌<◌, ◌≤◌, eqb, ltb, ◌⊎◌, List, [], ◌∷◌, ◌++◌, length, sym, refl, ap, ◌∙◌, subst, inl, inr, arith}
-use Rattle.std.proofs.lemmas.Bool.{cases_eq, cases_lt, eq-eqb}
+use Rattle.std.proofs.Common.{◌≡◌, ℕ, suc, ◌+◌, ◌%◌, ◌<◌, eqb, ltb, List, [], ◌∷◌, length, sym, refl, ap, ◌∙◌, inl, inr, arith}
+use Rattle.std.proofs.lemmas.Bool.{cases_eq, eq-eqb}
 use Rattle.std.proofs.lemmas.Bool.Decides.{nat_tests}
-use Rattle.rings.specs.Circles.{one_if, occ, occs, Chain, AllCircles, Circles, names, put, rings}
+use Rattle.rings.specs.Circles.{one_if, occ, occs, Chain, Circles, names, put, rings}
 use Rattle.rings.specs.Law.{opp, turn, Closes, Along, Noded, Ringed}
 use Rattle.rings.proofs.Listing.{listed}
 use Rattle.rings.proofs.Ringed.{ringed_circles, circles_ringed}
@@ -11,7 +11,7 @@ use Rattle.rings.proofs.Occurs.{one_same, one_other, one_most, one_below, below_
 use Rattle.rings.proofs.Chains.{picked}
 use Rattle.rings.proofs.Surgery.{all_from, names_from}
 use Rattle.rings.proofs.Members.{chain_first}
-use Rattle.rings.proofs.Closed.{all_next, chain_onto, one_image, within}
+use Rattle.rings.proofs.Closed.{all_next, chain_onto, one_image}
 use Rattle.rings.proofs.Links.{put_same, put_other}
 use Rattle.rings.proofs.Undo.{TwoLess, two_out}
 

@@ -1,9 +1,9 @@
 -- Labels of circles: under other labels, where the highest fills a gap, and how many there can be.
-use Rattle.std.proofs.Common.{◌≡◌, ℕ, zero, suc, ◌+◌, ◌-◌, ◌<◌, ◌≤◌, Bool, true, false, cond, eqb, ltb, ◌⊎◌, List, [], ◌∷◌, ◌++◌, map, length, sym, refl, ap, ◌∙◌, subst, inl, inr, arith}
-use Rattle.std.proofs.lemmas.Bool.{cases_eq, cases_lt, eq-eqb, ne_eqb}
+use Rattle.std.proofs.Common.{◌≡◌, ℕ, zero, suc, ◌+◌, ◌-◌, ◌<◌, ◌≤◌, eqb, ltb, List, [], ◌∷◌, ◌++◌, map, length, sym, refl, ap, ◌∙◌, subst, inl, inr, arith}
+use Rattle.std.proofs.lemmas.Bool.{cases_eq, cases_lt, eq-eqb}
 use Rattle.std.proofs.lemmas.Bool.Decides.{nat_tests}
-use Rattle.std.proofs.lemmas.List.{length-append, length-map}
-use Rattle.rings.specs.Circles.{one_if, occ, occs, AllCircles, Circles, first, names, starts, rings}
+use Rattle.std.proofs.lemmas.List.{length-append}
+use Rattle.rings.specs.Circles.{one_if, occ, occs, AllCircles, first, names, starts, rings}
 use Rattle.rings.specs.Law.{Ringed, Along}
 use Rattle.rings.specs.Edits.{fill}
 use Rattle.rings.proofs.Occurs.{occ_append, one_same, one_other, one_most, one_below, one_past, below_one}

@@ -1,9 +1,9 @@
 -- An arc whose sides are two rings alone goes: it takes the highest number, and is left out.
-use Rattle.std.proofs.Common.{◌≡◌, ℕ, suc, ◌+◌, ◌-◌, ◌*◌, ◌/◌, ◌%◌, ◌<◌, ◌≤◌, Bool, true, false, cond, eqb, ltb, ◌⊎◌, List, [], ◌∷◌, map, length, sym, refl, ap, ◌∙◌, subst, inl, inr, arith}
-use Rattle.std.proofs.lemmas.Bool.{cases_eq, cases_lt, eq-eqb}
+use Rattle.std.proofs.Common.{◌≡◌, ℕ, suc, ◌+◌, ◌%◌, ◌<◌, eqb, ltb, List, ◌∷◌, map, length, sym, ap, ◌∙◌, inl, inr, arith}
+use Rattle.std.proofs.lemmas.Bool.{cases_eq, cases_lt}
 use Rattle.std.proofs.lemmas.List.{length-map}
-use Rattle.rings.specs.Circles.{one_if, occ, occs, Chain, AllCircles, Circles, names, put, ring, rings, meets}
-use Rattle.rings.specs.Law.{opp, turn, Closes, Along, Noded, Ringed}
+use Rattle.rings.specs.Circles.{one_if, occ, Circles, names, put, ring, rings, meets}
+use Rattle.rings.specs.Law.{opp, turn, Closes, Along, Ringed}
 use Rattle.rings.specs.Edits.{exchanged}
 use Rattle.rings.proofs.Occurs.{below_one, below_more, one_below, one_past, one_most}
 use Rattle.rings.proofs.Chains.{picked, chain_from}

@@ -1,13 +1,13 @@
 -- Where each member tells the lowest of its circle, the circles start at the members that tell themselves.
-use Rattle.std.proofs.Common.{◌≡◌, ℕ, zero, suc, ◌+◌, ◌-◌, ◌<◌, ◌≤◌, Bool, true, false, cond, ◌&&◌, eqb, ltb, ◌⊎◌, List, [], ◌∷◌, ◌++◌, length, get_or, sym, refl, ap, ◌∙◌, subst, inl, inr, arith}
-use Rattle.std.proofs.lemmas.Bool.{cases_eq, cases_lt, cases_Bool, ltb-true, eq-eqb, ne_eqb, eqb-true, lt-ltb, le-ltb, and_parts, and_left, cond-true, cond-false, cond_both}
+use Rattle.std.proofs.Common.{◌≡◌, ℕ, zero, suc, ◌+◌, ◌-◌, ◌<◌, ◌≤◌, Bool, true, false, cond, ◌&&◌, eqb, ltb, List, [], ◌∷◌, ◌++◌, length, get_or, sym, refl, ap, ◌∙◌, subst, inl, inr, arith}
+use Rattle.std.proofs.lemmas.Bool.{cases_eq, cases_lt, ltb-true, eqb-true, lt-ltb, le-ltb, and_parts, and_left, cond_both}
 use Rattle.std.proofs.lemmas.List.{length-append, append-nil, get_or_append_left, get_or-append_right}
-use Rattle.rings.specs.Circles.{one_if, occ, occs, Chain, AllCircles, Circles, first, names, ring, rings, meets, Lowest, Rising, starts, kept}
-use Rattle.rings.specs.Law.{Ringed, Along, LowAlong, LowBelow, LowNames}
-use Rattle.rings.proofs.Occurs.{occ_append, one_same, one_other, one_most, one_below, one_past, below_one, below_more}
+use Rattle.rings.specs.Circles.{one_if, occ, occs, AllCircles, first, names, ring, rings, Lowest, Rising, starts, kept}
+use Rattle.rings.specs.Law.{Ringed, LowAlong, LowBelow, LowNames}
+use Rattle.rings.proofs.Occurs.{occ_append, one_same, one_other, one_most, below_one}
 use Rattle.rings.proofs.Ringed.{ringed_circles}
 use Rattle.rings.proofs.Listing.{ring_is}
-use Rattle.rings.proofs.Closed.{same_circle, meets_self}
+use Rattle.rings.proofs.Closed.{same_circle}
 use Rattle.rings.proofs.Words.{rings_order}
 
 -- ---- what is kept

@@ -1,9 +1,9 @@
 -- An arc is closed at a node of its own exactly if each of its sides is a ring alone.
-use Rattle.std.proofs.Common.{◌≡◌, ℕ, suc, ◌+◌, ◌-◌, ◌*◌, ◌%◌, ◌<◌, ◌≤◌, Bool, true, false, eqb, ltb, ◌⊎◌, List, [], ◌∷◌, sym, refl, ap, ◌∙◌, subst, inl, inr, arith}
-use Rattle.std.proofs.lemmas.Bool.{cases_eq, cases_lt, ltb-true}
-use Rattle.rings.specs.Circles.{one_if, occ, Chain, Circles, ring, rings, meets}
+use Rattle.std.proofs.Common.{◌≡◌, ℕ, ◌+◌, ◌<◌, eqb, ◌⊎◌, List, [], ◌∷◌, sym, ap, ◌∙◌, subst, inl, inr, arith}
+use Rattle.std.proofs.lemmas.Bool.{cases_eq, ltb-true}
+use Rattle.rings.specs.Circles.{occ, ring}
 use Rattle.rings.specs.Law.{opp, turn, Closes, Noded, Ringed}
-use Rattle.rings.proofs.Occurs.{one_same, one_other, one_most, one_below, one_past}
+use Rattle.rings.proofs.Occurs.{one_other, one_most, one_below}
 use Rattle.rings.proofs.Listing.{ring_is}
 use Rattle.rings.proofs.Words.{turn_meets}
 

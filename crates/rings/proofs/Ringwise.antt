@@ -1,7 +1,7 @@
 -- The rings by their starts, the lowest member of a ring, and a walk step by step.
-use Rattle.std.proofs.Common.{◌≡◌, ℕ, zero, suc, ◌+◌, ◌<◌, ◌≤◌, Bool, true, false, ◌&&◌, eqb, ltb, ◌⊎◌, List, [], ◌∷◌, ◌++◌, map, sym, refl, ap, ◌∙◌, subst, inl, inr, arith}
+use Rattle.std.proofs.Common.{◌≡◌, ℕ, zero, suc, ◌<◌, ◌≤◌, Bool, true, false, ◌&&◌, eqb, ltb, List, [], ◌∷◌, map, sym, refl, ap, ◌∙◌, subst, inl, inr, arith}
 use Rattle.std.proofs.lemmas.Bool.{cases_eq, ltb-true, eqb-true, eq-eqb, ne_eqb, and_parts, cond-true, cond-false}
-use Rattle.rings.specs.Circles.{one_if, occ, occs, Chain, AllCircles, Circles, names, walk, ring, rings, meets, starts, kept}
+use Rattle.rings.specs.Circles.{one_if, occ, occs, AllCircles, walk, ring, rings, meets, starts, kept}
 use Rattle.rings.specs.Law.{Ringed, LowAlong, LowBelow, LowNames}
 use Rattle.rings.proofs.Occurs.{one_same, one_most, one_below, below_one}
 use Rattle.rings.proofs.Chains.{picked, turned}

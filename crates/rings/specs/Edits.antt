@@ -1,5 +1,5 @@
 -- What the edits make of the next sides, the nodes and the polygons.
-use Rattle.std.specs.Prelude.{◌≡◌, ℕ, zero, suc, ◌+◌, ◌*◌, ◌/◌, ◌%◌, ◌<◌, cond, ◌==◌}
+use Rattle.std.specs.Prelude.{ℕ, suc, ◌+◌, ◌*◌, ◌/◌, ◌%◌, cond, ◌==◌}
 use Rattle.rings.specs.Circles.{put, meets}
 
 -- n after s, and suc n before o, which came after p

@@ -1,6 +1,6 @@
 -- The law of a map: its rings and the turns about its nodes.
-use Rattle.std.specs.Prelude.{◌≡◌, ℕ, zero, suc, ◌+◌, ◌-◌, ◌*◌, ◌%◌, ◌<◌, ◌≤◌, ◌&&◌, List, [], ◌∷◌, ◌==◌, nat_lt}
-use Rattle.rings.specs.Circles.{one_if, occ, occs, Circles, names, rings, meets}
+use Rattle.std.specs.Prelude.{◌≡◌, ℕ, ◌+◌, ◌-◌, ◌*◌, ◌%◌, ◌<◌, ◌≤◌, ◌&&◌, ◌==◌, nat_lt}
+use Rattle.rings.specs.Circles.{one_if, occ, occs, names, rings}
 
 -- the other side of the arc
 abbrev pub opp : ℕ → ℕ

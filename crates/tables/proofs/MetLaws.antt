@@ -1,10 +1,10 @@
 -- A record passes the test for a window exactly if it meets the window.
-use Rattle.std.proofs.Common.{◌≡◌, Bool, true, false, ◌&&◌, T, Ok, Err, Result, sym, refl, ap, ◌∙◌, ⊎_elim}
+use Rattle.std.proofs.Common.{◌≡◌, true, Ok, Err, Result}
 use Rattle.std.proofs.lemmas.Bool.{and_parts, and_from, false≢true}
 use Rattle.refusal.specs.declared.Refusal.{Refusal}
 use Rattle.boxes.specs.declared.edges.Edges.{Edges}
 use Rattle.boxes.specs.declared.bounds.Bounds.{Bounds}
-use Rattle.boxes.specs.Boxes.{fair_edges, edges_of, meets, Share}
+use Rattle.boxes.specs.Boxes.{fair_edges, edges_of, meets}
 use Rattle.boxes.proofs.MeetLaws.{share_from_meets, meets_from_share}
 use Rattle.tables.specs.Windows.{Meeting, met}
 

@@ -1,5 +1,5 @@
 -- How many parts of a size there are in so many bytes.
-use Rattle.std.proofs.Common.{◌≡◌, ℕ, ◌+◌, ◌*◌, ◌/◌, ◌%◌, ◌<◌, ◌≤◌, sym, refl, add-mul, one-mul, arith}
+use Rattle.std.proofs.Common.{◌≡◌, ℕ, ◌+◌, ◌*◌, ◌/◌, ◌<◌, ◌≤◌, add-mul, one-mul, arith}
 use Rattle.std.proofs.lemmas.Nat.{mul-le, le-div, div-add-mod'}
 
 pub row_within : (m k z : ℕ) → k < m / z → k * z + z ≤ m

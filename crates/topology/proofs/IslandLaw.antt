@@ -1,18 +1,17 @@
 -- An island keeps the law, and adds two rings.
-use Rattle.std.proofs.Common.{◌≡◌, ℕ, zero, suc, ◌+◌, ◌-◌, ◌/◌, ◌%◌, ◌<◌, ◌≤◌, Bool, true, false, ◌&&◌, eqb, ltb, leb, ◌⊎◌, List, [], ◌∷◌, ◌++◌, length, get_or, sym, refl, ap, ◌∙◌, subst, inl, inr, add-one, arith}
-use Rattle.std.proofs.lemmas.Bool.{cases_eq, cases_lt, and_parts, and_left, leb-true, lt-ltb, le-ltb, eq-eqb}
+use Rattle.std.proofs.Common.{◌≡◌, ℕ, zero, suc, ◌+◌, ◌-◌, ◌/◌, ◌%◌, ◌<◌, ◌≤◌, true, false, ◌&&◌, eqb, ltb, leb, ◌⊎◌, List, [], ◌∷◌, ◌++◌, length, get_or, sym, refl, ap, ◌∙◌, subst, inl, inr, add-one, arith}
+use Rattle.std.proofs.lemmas.Bool.{cases_eq, cases_lt, and_parts, leb-true, lt-ltb, le-ltb, eq-eqb}
 use Rattle.std.proofs.lemmas.List.{get_or_append_left, get_or-append_right, length-append}
-use Rattle.std.proofs.lemmas.Bool.Decides.{nat_tests}
 use Rattle.rings.specs.Circles.{one_if, occ, names, put, rings}
 use Rattle.rings.specs.Law.{turn, Ringed, Closes, Along, Noded}
 use Rattle.rings.specs.Edits.{island_next, island_node, island_polygon}
-use Rattle.rings.proofs.Occurs.{one_same, one_other, one_below, one_past}
+use Rattle.rings.proofs.Occurs.{one_same, one_other}
 use Rattle.rings.proofs.Island.{IslandKeeps, island_keeps, island_names, label_n, label_top, label_old, node_n, node_top, node_old}
 use Rattle.rings.proofs.Words.{node_low}
 use Rattle.topology.specs.declared.side.Side.{Side}
 use Rattle.topology.specs.declared.vertex.Vertex.{Vertex}
-use Rattle.topology.specs.Rows.{no_side, no_vertex, next_of, node_of, polygon_of, row_of, low_of, good, same_place, start_of}
-use Rattle.topology.specs.MapLaw.{RunsStand, EndsTogether, AllFinite}
+use Rattle.topology.specs.Rows.{no_vertex, next_of, node_of, polygon_of, row_of, low_of, good, same_place, start_of}
+use Rattle.topology.specs.MapLaw.{RunsStand, AllFinite}
 use Rattle.topology.specs.Lawfuls.{Lawful}
 use Rattle.topology.specs.Islands.{all_good, closed_run, unturned, turned}
 use Rattle.topology.proofs.Appended.{field_two}

@@ -1,6 +1,6 @@
 -- A lift keeps the law.
-use Rattle.std.proofs.Common.{◌≡◌, ℕ, zero, suc, ◌+◌, ◌-◌, ◌*◌, ◌/◌, ◌%◌, ◌<◌, ◌≤◌, Bool, true, false, cond, not, ◌&&◌, ◌||◌, eqb, ltb, leb, ◌⊎◌, List, [], ◌∷◌, map, length, get_or, take, set, sym, refl, ap, ◌∙◌, subst, inl, inr, arith}
-use Rattle.std.proofs.lemmas.Bool.{ltb-true, cases_eq, cases_lt, eq-eqb, ne_eqb, eqb-true, or_cases, cond-true, cond-false}
+use Rattle.std.proofs.Common.{◌≡◌, ℕ, suc, ◌+◌, ◌-◌, ◌*◌, ◌/◌, ◌%◌, ◌<◌, ◌≤◌, true, cond, eqb, ◌⊎◌, List, [], ◌∷◌, map, length, get_or, take, set, sym, refl, ap, ◌∙◌, subst, inl, inr, arith}
+use Rattle.std.proofs.lemmas.Bool.{ltb-true, cases_eq, cases_lt, eq-eqb, eqb-true, or_cases, cond-true}
 use Rattle.std.proofs.lemmas.Bool.Decides.{nat_tests}
 use Rattle.std.proofs.lemmas.List.{get_or-map, get_or-take, get_or-set_same, get_or-set_other, length-set, length-take-le, length-map}
 use Rattle.rings.specs.Circles.{one_if, occ, names, rings, ring, walk, meets}
@@ -19,12 +19,12 @@ use Rattle.rings.proofs.Exchange.{exchanged_twice, exchanged_low, exchanged_untu
 use Rattle.topology.specs.declared.side.Side.{Side}
 use Rattle.topology.specs.declared.vertex.Vertex.{Vertex}
 use Rattle.topology.specs.declared.renumbering.Renumbering.{Renumbering}
-use Rattle.topology.specs.Rows.{no_side, no_vertex, next_of, node_of, polygon_of, row_of, low_of, good, same_place, start_of}
-use Rattle.topology.specs.MapLaw.{InRings, InTurns, RingsClose, OnePolygon, OneTurn, PolygonsKnown, PolygonsHaveRings, EndsTogether, AllFinite, RunsStand, LowAlong, LowBelow, LowNames}
+use Rattle.topology.specs.Rows.{no_side, no_vertex, next_of, node_of, polygon_of, row_of, low_of, start_of}
+use Rattle.topology.specs.MapLaw.{OnePolygon, OneTurn, PolygonsKnown, PolygonsHaveRings, EndsTogether, RunsStand, LowAlong, LowBelow, LowNames}
 use Rattle.topology.specs.Lawfuls.{Lawful}
-use Rattle.topology.specs.Renumbered.{lower, higher, side_filled, polygon_filled, low_filled, renumbered}
-use Rattle.topology.specs.Lifts.{closed_alone, other_under, ring_left, last_polygon, lift_numbers, rows_without, lifted_sides, polygons_left}
-use Rattle.topology.proofs.Alone.{alone_rings, Other, other_at}
+use Rattle.topology.specs.Renumbered.{lower, higher, polygon_filled, renumbered}
+use Rattle.topology.specs.Lifts.{closed_alone, other_under, ring_left, lift_numbers, lifted_sides, polygons_left}
+use Rattle.topology.proofs.Alone.{alone_rings, other_at}
 
 side_exchanged : (a z x : ℕ) → (x ≡ a + a → ⊥) → (x ≡ a + a + 1 → ⊥) → fill (a + a) (z + z) (fill (a + a + 1) (z + z + 1) x) ≡ exchanged a z x
 side_exchanged a z x n0 n1 =

@@ -1,5 +1,5 @@
 -- The numbers that change, read through the whole table.
-use Rattle.std.proofs.Common.{◌≡◌, ℕ, ◌+◌, ◌-◌, ◌<◌, ◌≤◌, cond, eqb, List, length, get_or, take, sym, refl, ap, ◌∙◌, arith}
+use Rattle.std.proofs.Common.{◌≡◌, ℕ, ◌+◌, ◌-◌, ◌<◌, ◌≤◌, cond, eqb, List, length, get_or, take, sym, ap, ◌∙◌, arith}
 use Rattle.topology.specs.declared.side.Side.{Side}
 use Rattle.topology.specs.declared.renumbering.Renumbering.{Renumbering}
 use Rattle.topology.specs.Rows.{no_side}

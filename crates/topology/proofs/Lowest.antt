@@ -1,16 +1,15 @@
 -- Counting the sides that are the lowest of their rings.
-use Rattle.std.proofs.Common.{◌≡◌, ℕ, suc, ◌+◌, ◌<◌, ◌≤◌, Bool, true, false, cond, eqb, ltb, List, [], ◌∷◌, ◌++◌, length, get_or, take, Ok, Err, Result, sym, refl, ap, ◌∙◌, subst, add-one, arith}
+use Rattle.std.proofs.Common.{◌≡◌, ℕ, ◌+◌, ◌<◌, ◌≤◌, Bool, true, false, cond, ltb, List, [], ◌∷◌, ◌++◌, length, get_or, take, Ok, Err, Result, sym, ap, ◌∙◌, add-one, arith}
 use Rattle.std.proofs.lemmas.Bool.{eq-eqb, ne_eqb, lt-ltb, le-ltb, cond-true, cond-false}
 use Rattle.std.proofs.lemmas.List.{length-append, append-nil}
 use Rattle.refusal.specs.declared.Refusal.{Refusal}
 use Rattle.refusal.specs.declared.Refusal.TheVariants.{NoSuchElement}
-use Rattle.rings.specs.Circles.{kept, rings, starts, names}
-use Rattle.rings.specs.Law.{Ringed}
+use Rattle.rings.specs.Circles.{kept, rings, starts}
 use Rattle.rings.proofs.Lows.{starts_kept, length_names, kept_at}
 use Rattle.topology.specs.declared.side.Side.{Side}
 use Rattle.topology.specs.Rows.{no_side, next_of, polygon_of, low_of, tells}
 use Rattle.topology.specs.MapLaw.{InRings, LowAlong, LowBelow, LowNames}
-use Rattle.topology.proofs.InUse.{in_use, long}
+use Rattle.topology.proofs.InUse.{in_use}
 
 pub kept_yes : (P : ℕ → Bool) (i : ℕ) → P i ≡ true → length (kept P (i + 1)) ≡ length (kept P i) + 1
 kept_yes P i h = ap (λ k. length (kept P k)) (add-one i) ∙ ap (λ t. length (kept P i ++ cond t (i ∷ []) [])) h ∙ length-append (kept P i) (i ∷ [])

@@ -1,5 +1,5 @@
 -- To share a place: each finite vertex does with itself, and either way round.
-use Rattle.std.proofs.Common.{◌≡◌, ℕ, ◌*◌, Bool, true, false, ◌&&◌, ◌||◌, eqb, sym, refl, ap, ◌∙◌}
+use Rattle.std.proofs.Common.{◌≡◌, ℕ, ◌*◌, Bool, true, false, ◌||◌, eqb, sym, refl, ap, ◌∙◌}
 use mathlib.Core.Bool.{beq}
 use lib.Ieee.{Float, nan, inf, fin, up, down, level, eq}
 use Rattle.std.specs.Float.{float_is_finite}

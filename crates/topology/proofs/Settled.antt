@@ -1,16 +1,15 @@
 -- Each outcome leaves the law, and moves the sum as it should.
-use Rattle.std.proofs.Common.{◌≡◌, ℕ, suc, ◌+◌, ◌-◌, ◌*◌, ◌/◌, ◌%◌, ◌<◌, ◌≤◌, Bool, true, false, cond, ◌&&◌, ltb, List, [], ◌∷◌, ◌++◌, length, Ok, Err, Result, sym, refl, ap, ◌∙◌, subst, arith}
+use Rattle.std.proofs.Common.{◌≡◌, ℕ, suc, ◌+◌, ◌-◌, ◌*◌, ◌/◌, ◌<◌, true, ◌&&◌, ltb, List, length, Ok, Err, Result, sym, refl, ap, arith}
 use Rattle.std.proofs.lemmas.Bool.{ltb-true, cond_both}
-use Rattle.std.proofs.lemmas.List.{length-append, length-map}
+use Rattle.std.proofs.lemmas.List.{length-append}
 use Rattle.refusal.specs.declared.Refusal.{Refusal}
 use Rattle.refusal.specs.declared.Refusal.TheVariants.{NoSuchElement, UnfitRun, NoRoom, ArcNotClosedAlone, PolygonLosesLastRing}
 use Rattle.rings.specs.Circles.{rings}
 use Rattle.rings.proofs.Words.{node_low}
-use Rattle.topology.specs.declared.side.Side.{Side}
 use Rattle.topology.specs.declared.vertex.Vertex.{Vertex}
 use Rattle.topology.specs.Rows.{next_of, node_of}
 use Rattle.topology.specs.States.{State}
-use Rattle.topology.specs.Questions.{arc_count, rings_of}
+use Rattle.topology.specs.Questions.{arc_count}
 use Rattle.topology.specs.Kept.{Stands, settled, taken, Moves}
 use Rattle.topology.specs.Islands.{closed_run, arc_room, vertex_room, island, island_outcome}
 use Rattle.topology.specs.Lifts.{closed_alone, ring_left, lifted, lift_outcome}

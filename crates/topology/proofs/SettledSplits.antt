@@ -1,8 +1,7 @@
 -- A split, a division and a dissolve leave the law and the sum.
-use Rattle.std.proofs.Common.{◌≡◌, ℕ, suc, ◌+◌, ◌-◌, ◌*◌, ◌/◌, ◌%◌, ◌<◌, ◌≤◌, Bool, true, false, cond, ◌&&◌, ltb, ◌⊎◌, List, [], ◌∷◌, ◌++◌, length, get_or, Ok, Err, Result, sym, refl, ap, ◌∙◌, subst, inl, inr, arith}
+use Rattle.std.proofs.Common.{◌≡◌, ℕ, suc, ◌+◌, ◌-◌, ◌/◌, ◌<◌, true, false, ◌&&◌, ltb, ◌⊎◌, List, length, get_or, Ok, Err, sym, refl, ap, ◌∙◌, subst, inl, inr, arith}
 use Rattle.std.proofs.lemmas.Bool.{ltb-true, cond_both, and_parts}
 use Rattle.std.proofs.lemmas.List.{length-map}
-use Rattle.refusal.specs.declared.Refusal.{Refusal}
 use Rattle.refusal.specs.declared.Refusal.TheVariants.{NoSuchElement, UnfitRun, NoRoom, NotInsideArc, SidesInTwoRings, RunEndsElsewhere, SidesShareRing, RingsAlone}
 use Rattle.rings.specs.Circles.{rings, meets}
 use Rattle.rings.proofs.SplitRings.{some_before}
@@ -14,7 +13,7 @@ use Rattle.topology.specs.declared.arc_side.ArcSide.TheVariants.{Unturned, Turne
 use Rattle.topology.specs.Rows.{no_vertex, next_of, polygon_of, row_of, same_place, start_of}
 use Rattle.topology.specs.States.{State}
 use Rattle.topology.specs.Questions.{arc_count, rings_of}
-use Rattle.topology.specs.Kept.{Stands, settled, taken, Moves}
+use Rattle.topology.specs.Kept.{Stands}
 use Rattle.topology.specs.Islands.{arc_room, vertex_room}
 use Rattle.topology.specs.Splits.{inside, split, split_outcome}
 use Rattle.topology.specs.Divisions.{linked, unturned_polygon, turned_polygon, fit_run, leads, divided, divide_outcome}

@@ -1,7 +1,7 @@
 -- Rows that go from a table: the last two take their place.
-use Rattle.std.proofs.Common.{◌≡◌, ℕ, ◌+◌, ◌-◌, ◌%◌, ◌<◌, ◌≤◌, ◌⊎◌, List, [], ◌∷◌, ◌++◌, map, length, get_or, take, drop, set, sym, refl, ap, ◌∙◌, subst, inl, inr, arith}
+use Rattle.std.proofs.Common.{◌≡◌, ℕ, ◌+◌, ◌-◌, ◌%◌, ◌<◌, ◌≤◌, List, ◌++◌, map, length, get_or, take, drop, set, sym, ap, ◌∙◌, inl, inr, arith}
 use Rattle.std.proofs.lemmas.Bool.{cases_eq, cases_lt}
-use Rattle.std.proofs.lemmas.List.{length-append, length-take, length-drop, length-take-le, length-set, length-map, take_at, drop_at, same_lists, places, get_or-set_same, get_or-set_other, get_or-take, drop-set-lt, set-get_or, take-append-drop}
+use Rattle.std.proofs.lemmas.List.{length-append, length-drop, length-take-le, length-set, length-map, take_at, drop_at, same_lists, get_or-set_same, get_or-set_other, get_or-take, drop-set-lt, set-get_or}
 use Rattle.topology.specs.declared.side.Side.{Side}
 use Rattle.topology.specs.Rows.{no_side}
 use Rattle.topology.specs.Lifts.{rows_without}

@@ -3,7 +3,6 @@ use Rattle.std.proofs.Common.{◌≡◌, ℕ, ◌+◌, ◌-◌, ◌<◌, ◌≤�
 use Rattle.std.proofs.lemmas.Bool.{and_parts, leb-true, ltb-true, lt-ltb, cond-true}
 use Rattle.std.proofs.lemmas.List.{length-map}
 use Rattle.refusal.specs.declared.Refusal.TheVariants.{NoSuchElement, NotInsideArc, NoRoom}
-use Rattle.rings.specs.Circles.{rings}
 use Rattle.rings.specs.LetIn.{let_in, split_after}
 use Rattle.rings.proofs.SplitRings.{some_before}
 use Rattle.topology.specs.declared.side.Side.{Side}

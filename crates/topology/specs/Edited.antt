@@ -1,5 +1,5 @@
 -- What an edit makes of a map.
-use Rattle.std.specs.Prelude.{◌≡◌, ℕ, ◌≤◌, List, length, drop, Ok, Err, Result}
+use Rattle.std.specs.Prelude.{◌≡◌, ℕ, ◌≤◌, length, drop, Ok, Err, Result}
 use Rattle.refusal.specs.declared.Refusal.{Refusal}
 use Rattle.topology.specs.declared.hand.Hand.{Hand}
 use Rattle.topology.specs.declared.side.Side.{Side}

@@ -1,5 +1,5 @@
 -- The whole law of a map, over its sides us, n of them, and its vertices vs.
-use Rattle.std.specs.Prelude.{◌≡◌, ℕ, ◌+◌, ◌%◌, ◌<◌, ◌≤◌, List, length}
+use Rattle.std.specs.Prelude.{◌≡◌, ℕ, ◌+◌, ◌%◌, ◌<◌, ◌≤◌, List}
 use Rattle.topology.specs.declared.side.Side.{Side}
 use Rattle.topology.specs.declared.vertex.Vertex.{Vertex}
 use Rattle.topology.specs.MapLaw.{InRings, InTurns, RingsClose, OnePolygon, OneTurn, PolygonsKnown, PolygonsHaveRings, EndsTogether, AllFinite, RunsStand, LowAlong, LowBelow, LowNames}

@@ -1,5 +1,5 @@
 -- The law of a map: us are its sides, n of them, and vs its vertices in use.
-use Rattle.std.specs.Prelude.{◌≡◌, ℕ, suc, ◌+◌, ◌*◌, ◌%◌, ◌<◌, ◌≤◌, true, ◌&&◌, List, length, ◌==◌, nat_lt, slice_index_or}
+use Rattle.std.specs.Prelude.{◌≡◌, ℕ, ◌+◌, ◌<◌, ◌≤◌, true, ◌&&◌, List, length, ◌==◌, nat_lt, slice_index_or}
 use Rattle.rings.specs.Circles.{one_if, occ, names, rings}
 use Rattle.rings.specs.Law.{turn, Ringed, Closes, Along, Noded}
 use Rattle.topology.specs.declared.side.Side.{Side}

@@ -1,5 +1,5 @@
 -- What a map means: its hand, its rows in use, its counts, and the room that its tables have.
-use Rattle.std.specs.Prelude.{◌≡◌, ℕ, List, [], length, take}
+use Rattle.std.specs.Prelude.{ℕ, List, [], length, take}
 use Rattle.topology.specs.declared.side.Side.{Side}
 use Rattle.topology.specs.declared.vertex.Vertex.{Vertex}
 use Rattle.topology.specs.declared.hand.Hand.{Hand}

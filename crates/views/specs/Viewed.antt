@@ -1,5 +1,5 @@
 -- What a view shows.
-use Rattle.std.specs.Prelude.{◌≡◌, ℕ, ◌+◌, ◌*◌, ◌<◌, ◌≤◌, List, length, Ok, Err, Result}
+use Rattle.std.specs.Prelude.{◌≡◌, ℕ, ◌+◌, ◌*◌, ◌<◌, List, Ok, Err, Result}
 use Rattle.refusal.specs.declared.Refusal.{Refusal}
 use Rattle.kinds.specs.declared.kind.Kind.{Kind}
 use Rattle.kinds.specs.declared.kind.Kind.TheVariants.{Points, Arcs, Nodes, Polygons}
@@ -7,7 +7,6 @@ use Rattle.records.specs.declared.shape.Shape.{Shape}
 use Rattle.views.specs.declared.view.View.{View}
 use Rattle.views.specs.declared.view.View.TheVariants.{OfPoints, OfArcs, OfNodes, OfPolygons}
 use Rattle.records.specs.Parts.{record_outcome}
-use Rattle.views.specs.Shapes.{records_end}
 use Rattle.kinds.specs.Sizes.{record_size}
 use Rattle.layout.specs.Versions.{width}
 

@@ -1,10 +1,10 @@
 -- What std's `parse` answers, in the words of the specs.
-use Rattle.std.proofs.Common.{◌≡◌, ℕ, ◌^◌, ◌<◌, Bool, true, false, cond, ◌&&◌, ltb, List, [], ◌∷◌, length, pos, is_some, is_ok, Some, None, Ok, Err, IsUtf8, Option, Result, sym, refl, ap, ◌∙◌, subst, append-nil, arith, rules}
+use Rattle.std.proofs.Common.{◌≡◌, ℕ, ◌^◌, ◌<◌, true, ◌&&◌, ltb, List, [], ◌∷◌, length, is_some, Some, None, Ok, Err, IsUtf8, Option, Result, sym, refl, ap, ◌∙◌, subst, append-nil, arith}
 use lib.Utf8.{scalar, encode, encodes, scalars}
-use lib.Ieee.{Float, binary64, of_int}
-use Rattle.std.specs.Result.{OkIff, result_ok}
+use lib.Ieee.{Float, binary64}
+use Rattle.std.specs.Result.{result_ok}
 use Rattle.std.specs.Float.Parse.{ParsesFloat, is_float_text}
-use Rattle.std.specs.Str.Parse.{AllDigits, IsNumeral, without_leading_plus, digits_value, ParsesUnsigned, ParsesChar}
+use Rattle.std.specs.Str.Parse.{IsNumeral, without_leading_plus, digits_value, ParsesUnsigned, ParsesChar}
 use Rattle.std.specs.Str.{all_ascii_digits, chars}
 use Rattle.std.proofs.lemmas.Str.Parse.{IsNumeralModel, numerals_by_value, tells_all_ascii_digits}
 use Rattle.std.proofs.lemmas.Bool.{and_parts, and_from, ltb-true, lt-ltb, cond_both}

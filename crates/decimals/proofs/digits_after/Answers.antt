@@ -1,4 +1,4 @@
-use Rattle.std.proofs.Common.{◌≡◌, sym, ◌∙◌}
+use Rattle.std.proofs.Common.{sym, ◌∙◌}
 use Rattle.decimals.proofs.digits_after.Goals as goal
 use Rattle.decimals.proofs.DigitValues.{step_at, over_at, none_at, digits_end}
 

@@ -1,4 +1,4 @@
-use Rattle.std.proofs.Common.{◌≡◌, suc, drop, ap, ◌∙◌, add-one}
+use Rattle.std.proofs.Common.{suc, drop, ap, ◌∙◌, add-one}
 use Rattle.decimals.proofs.fraction.Goals as goal
 use Rattle.decimals.proofs.DigitValues.{after_drop}
 

@@ -1,4 +1,4 @@
-use Rattle.std.proofs.Common.{◌≡◌, sym, ◌∙◌}
+use Rattle.std.proofs.Common.{sym, ◌∙◌}
 use Rattle.decimals.proofs.joined.Goals as goal
 use Rattle.decimals.proofs.DigitValues.{some_first, none_first}
 

@@ -1,5 +1,4 @@
-use Rattle.std.proofs.Common.{◌≡◌, ℕ, ◌^◌, ◌<◌, false, sym, ap, ◌∙◌, arith, pow_pos}
-use lib.Ieee.{binary64, div, round}
+use Rattle.std.proofs.Common.{◌^◌}
 use Rattle.decimals.proofs.quotient.Goals as goal
 use Rattle.decimals.proofs.Quotients.{whole_exact, quotient_once, ten_low, ten_pos}
 

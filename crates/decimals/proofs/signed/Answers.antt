@@ -1,4 +1,4 @@
-use Rattle.std.proofs.Common.{◌≡◌, ◌^◌, Some, sym, ap, ◌∙◌}
+use Rattle.std.proofs.Common.{◌^◌, Some, ap, ◌∙◌}
 use lib.Ieee.{Float, binary64, neg}
 use Rattle.decimals.proofs.signed.Goals as goal
 use Rattle.decimals.proofs.Quotients.{neg_round}

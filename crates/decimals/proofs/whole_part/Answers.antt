@@ -1,4 +1,4 @@
-use Rattle.std.proofs.Common.{◌≡◌, take, ap, ◌∙◌}
+use Rattle.std.proofs.Common.{take, ap, ◌∙◌}
 use Rattle.decimals.proofs.whole_part.Goals as goal
 use Rattle.decimals.proofs.DigitValues.{before_take}
 

@@ -1,8 +1,8 @@
-use Rattle.std.proofs.Common.{◌≡◌, ℕ, ◌+◌, ◌≤◌, List, Ok, Err, Result, ap, ◌∙◌, arith}
+use Rattle.std.proofs.Common.{◌≡◌, ℕ, ◌+◌, ◌≤◌, List, Err, Result, ap, ◌∙◌, arith}
 use Rattle.std.proofs.lemmas.Result.{err_from_is_err_and}
 use Rattle.refusal.specs.declared.Refusal.{Refusal}
 use Rattle.topology.specs.declared.vertex.Vertex.{Vertex}
-use Rattle.topology.specs.States.{State, state_of}
+use Rattle.topology.specs.States.{state_of}
 use Rattle.topology.specs.Edited.{answered}
 use Rattle.topology.specs.Islands.{island_outcome}
 use Rattle.bench_export.specs.Nestings.{nested}

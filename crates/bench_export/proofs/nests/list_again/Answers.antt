@@ -1,4 +1,4 @@
-use Rattle.std.proofs.Common.{◌≡◌, List, ap, ◌∙◌}
+use Rattle.std.proofs.Common.{ap, ◌∙◌}
 use Rattle.topology.specs.States.{state_of}
 use Rattle.listing.specs.Texts.{listing, text_leaves}
 use Rattle.bench_export.proofs.Nesting.{leaves_again}

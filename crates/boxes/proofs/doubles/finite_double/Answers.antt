@@ -1,4 +1,4 @@
-use lib.Ieee.{binary64, of_bits}
+use lib.Ieee.{binary64}
 use lib.Ieee.Bits.{nan_bits_is}
 use Rattle.boxes.proofs.Order.{no_nan}
 use Rattle.boxes.proofs.doubles.finite_double.Goals as goal

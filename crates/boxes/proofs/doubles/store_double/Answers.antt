@@ -1,7 +1,6 @@
 use Rattle.std.proofs.Common.{◌∙◌, arith, rules}
 use lib.Ieee.{binary64, to_bits}
 use Rattle.editions.proofs.DigitLaws.{digits_8}
-use Rattle.boxes.proofs.Order.{no_nan}
 use Rattle.boxes.proofs.StoredBack.{stored_double}
 use Rattle.boxes.proofs.doubles.store_double.Goals as goal
 

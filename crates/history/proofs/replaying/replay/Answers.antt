@@ -1,15 +1,13 @@
-use Rattle.std.proofs.Common.{◌≡◌, List, map, length, get_or, sym, refl, ap, ◌∙◌, subst, arith}
+use Rattle.std.proofs.Common.{◌≡◌, map, get_or, sym, refl, ap, ◌∙◌, subst, arith}
 use Rattle.std.proofs.lemmas.List.{length-map, get_or-map}
-use Rattle.topology.specs.declared.vertex.Vertex.{Vertex}
 use Rattle.topology.specs.States.{state_of}
 use Rattle.topology.proofs.Assembling.{lawful_of}
-use Rattle.calls.specs.declared.call.Call.{Call}
 use Rattle.calls.specs.declared.call.Call.TheVariants.{Counts}
 use Rattle.calls.specs.Outcomes.{with_run, Outcome}
 use Rattle.history.specs.Runs.{World, after, reply}
 use Rattle.history.specs.Law.{Lasts}
 use Rattle.history.proofs.Turns.{turn, end}
-use Rattle.history.proofs.Frees.{frees_none, frees_turn}
+use Rattle.history.proofs.Frees.{frees_turn}
 use Rattle.history.proofs.Histories.{history_law}
 use Rattle.history.proofs.replaying.replay.Goals as goal
 

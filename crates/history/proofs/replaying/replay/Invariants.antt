@@ -1,7 +1,6 @@
 use Rattle.std.proofs.Common.{◌≡◌, map}
 use Rattle.topology.specs.States.{state_of}
 use Rattle.calls.specs.Outcomes.{with_run}
-use Rattle.history.specs.Runs.{World}
 use Rattle.history.proofs.Turns.{Goes}
 use Rattle.history.proofs.Frees.{Frees}
 use Rattle.history.proofs.replaying.replay.Given as goal

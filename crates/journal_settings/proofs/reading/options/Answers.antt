@@ -1,4 +1,3 @@
-use Rattle.std.proofs.Common.{arith}
 use Rattle.journal_settings.proofs.OptionLaws.{stops, goes_on, fewer, ended}
 use Rattle.journal_settings.proofs.reading.options.Goals as goal
 

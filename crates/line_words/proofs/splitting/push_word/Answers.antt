@@ -1,4 +1,4 @@
-use Rattle.std.proofs.Common.{arith, rules}
+use Rattle.std.proofs.Common.{rules}
 use Rattle.line_words.proofs.WordLaws.{word_more}
 use Rattle.line_words.proofs.splitting.push_word.Goals as goal
 

@@ -1,4 +1,4 @@
-use Rattle.std.proofs.Common.{ℕ, ◌+◌, decimal, ap, arith}
+use Rattle.std.proofs.Common.{ℕ, ◌+◌, decimal, ap}
 use Rattle.listing.proofs.Putting.{put_past}
 use Rattle.listing.proofs.puts.put_number.Goals as goal
 

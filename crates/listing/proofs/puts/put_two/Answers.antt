@@ -1,4 +1,3 @@
-use Rattle.std.proofs.Common.{arith}
 use Rattle.listing.proofs.Putting.{put_then}
 use Rattle.listing.proofs.puts.put_two.Goals as goal
 

@@ -1,6 +1,6 @@
-use Rattle.std.proofs.Common.{◌≡◌, ℕ, ◌+◌, ◌*◌, ◌%◌, ◌<◌, ◌≢◌, [], length, get_or, sym, ap, ◌∙◌, arith, below_more}
+use Rattle.std.proofs.Common.{◌+◌, ◌%◌, ◌≢◌, [], length, get_or, sym, ap, ◌∙◌, arith, below_more}
 use Rattle.std.proofs.lemmas.List.{get_or-set_same, get_or-set_other}
-use Rattle.pages.specs.Paging.{content, byte_at}
+use Rattle.pages.specs.Paging.{content}
 use Rattle.pages.proofs.Contents.{getD_content, run_from_getD, length_content}
 use Rattle.pages.proofs.pages.fetch.Goals as goal
 

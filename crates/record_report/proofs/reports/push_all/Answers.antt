@@ -1,4 +1,4 @@
-use Rattle.std.proofs.Common.{◌≡◌, ◌++◌, string_bytes, refl, ap, ◌∙◌}
+use Rattle.std.proofs.Common.{◌++◌, string_bytes, refl, ap, ◌∙◌}
 use Rattle.record_lines.specs.Texts.{line}
 use Rattle.record_report.specs.Reports.{every}
 use Rattle.record_report.proofs.LineLaws.{lines_more}

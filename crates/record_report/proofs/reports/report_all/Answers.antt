@@ -1,4 +1,4 @@
-use Rattle.std.proofs.Common.{◌≡◌, sym, ap, ◌∙◌}
+use Rattle.std.proofs.Common.{sym, ap, ◌∙◌}
 use Rattle.tables.proofs.CountLaws.{tally_every}
 use Rattle.record_lines.specs.Texts.{line, head_text, foot_text}
 use Rattle.record_report.specs.Reports.{lines, every}

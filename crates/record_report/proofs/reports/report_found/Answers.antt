@@ -1,4 +1,4 @@
-use Rattle.std.proofs.Common.{◌≡◌, sym, ap, ◌∙◌}
+use Rattle.std.proofs.Common.{ap, ◌∙◌}
 use Rattle.boxes.specs.Boxes.{edges_of}
 use Rattle.tables.specs.Windows.{met}
 use Rattle.record_lines.specs.Texts.{line, head_text, foot_text}

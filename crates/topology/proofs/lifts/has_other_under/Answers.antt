@@ -1,4 +1,4 @@
-use Rattle.std.proofs.Common.{◌≡◌, take, sym, ap, ◌∙◌, arith}
+use Rattle.std.proofs.Common.{take, sym, ◌∙◌, arith}
 use Rattle.topology.proofs.Alone.{other_found, other_none, other_read}
 use Rattle.topology.proofs.lifts.has_other_under.Goals as goal
 

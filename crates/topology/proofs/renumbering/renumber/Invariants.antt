@@ -1,4 +1,4 @@
-use Rattle.std.proofs.Common.{◌≡◌, ◌++◌, map, length, take, drop}
+use Rattle.std.proofs.Common.{◌≡◌, ◌++◌, map, take, drop}
 use Rattle.topology.specs.Renumbered.{renumbered}
 use Rattle.topology.proofs.renumbering.renumber.Given as goal
 

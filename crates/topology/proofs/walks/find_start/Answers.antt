@@ -1,4 +1,4 @@
-use Rattle.std.proofs.Common.{◌≡◌, ◌+◌, take, sym, ap, ◌∙◌, arith}
+use Rattle.std.proofs.Common.{◌+◌, take, sym, ap, ◌∙◌, arith}
 use Rattle.topology.specs.Rows.{tells}
 use Rattle.topology.proofs.Lowest.{kept_yes, kept_no, tells_yes, tells_no}
 use Rattle.topology.proofs.walks.find_start.Goals as goal

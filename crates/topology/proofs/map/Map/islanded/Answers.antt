@@ -1,7 +1,7 @@
-use Rattle.std.proofs.Common.{◌≡◌, ◌+◌, ◌-◌, length, sym, refl, ap, ◌∙◌, arith}
+use Rattle.std.proofs.Common.{◌+◌, ◌-◌, length, ap, ◌∙◌, arith}
 use Rattle.topology.specs.declared.table.Table.{Table}
 use Rattle.topology.specs.declared.side.Side.{Side}
-use Rattle.topology.specs.States.{State, state_of}
+use Rattle.topology.specs.States.{State}
 use Rattle.topology.specs.Questions.{rings_of}
 use Rattle.topology.specs.Islands.{unturned, turned, island_outcome}
 use Rattle.topology.proofs.Assembling.{assembled_state, assembled_done}

@@ -1,7 +1,6 @@
-use Rattle.std.proofs.Common.{◌≡◌, ℕ, ◌+◌, Bool, true, false, ◌||◌, eqb, length, get_or, take, sym, refl, ap, ◌∙◌, arith}
+use Rattle.std.proofs.Common.{◌+◌, Bool, ◌||◌, eqb, get_or, take, sym, ap, ◌∙◌, arith}
 use Rattle.std.proofs.lemmas.Bool.{eq-eqb, ne_eqb, or_left}
 use Rattle.topology.specs.Rows.{no_side}
-use Rattle.topology.specs.States.{state_of}
 use Rattle.topology.specs.Lifts.{other_under}
 use Rattle.topology.specs.Renumbered.{lower}
 use Rattle.topology.proofs.InUse.{long}

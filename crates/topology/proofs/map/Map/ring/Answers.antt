@@ -1,4 +1,4 @@
-use Rattle.std.proofs.Common.{◌≡◌, length, take, sym, ap, ◌∙◌}
+use Rattle.std.proofs.Common.{take, ap}
 use Rattle.topology.specs.declared.side.Side.{Side}
 use Rattle.topology.specs.Rows.{no_side}
 use Rattle.topology.proofs.InUse.{in_use, long}

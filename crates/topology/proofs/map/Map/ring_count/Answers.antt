@@ -1,4 +1,4 @@
-use Rattle.std.proofs.Common.{◌≡◌, length, take, sym, ap, ◌∙◌}
+use Rattle.std.proofs.Common.{length, take, sym, ap, ◌∙◌}
 use Rattle.rings.specs.Circles.{rings}
 use Rattle.topology.specs.Rows.{next_of}
 use Rattle.rings.proofs.Listing.{same_count}
