@@ -9,7 +9,7 @@ use Rattle.topology.specs.Rows.{no_vertex}
 use Rattle.line_words.specs.LineWords.{word}
 use Rattle.words.specs.Words.{whole_of, Decimal}
 use Rattle.calls.specs.declared.call.Call.{Call}
-use Rattle.calls.specs.declared.call.Call.TheVariants.{Island, Lift, List as Listing, Counts, Ring, Side, Arc, Vertex as VertexOf}
+use Rattle.calls.specs.declared.call.Call.TheVariants.{Island, Lift, Split, Divide, Dissolve, List as Listing, Counts, Ring, Side, Arc, Vertex as VertexOf}
 use Rattle.calls.specs.Outcomes.{with_run}
 use Rattle.call_lines.specs.declared.expected.Expected.{Expected}
 use Rattle.call_lines.specs.declared.expected.Expected.TheVariants.{AnyCall, IslandCall, LiftCall, ListCall, CountsCall, RingCall, SideCall, ArcCall, VertexCall}
@@ -113,6 +113,9 @@ RunOf ws (Some vs) = (list_all is_vertex ws ≡ true) × Run ws (vec_items vs)
 abbrev pub run_of : {X : Type 0} → Call (List X) → List X
 run_of (Island p run) = run
 run_of (Lift a) = []
+run_of (Split a k) = []
+run_of (Divide s t run named) = run
+run_of (Dissolve a) = []
 run_of Listing = []
 run_of Counts = []
 run_of (Ring k) = []

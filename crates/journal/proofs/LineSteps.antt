@@ -7,7 +7,7 @@ use Rattle.topology.specs.declared.vertex.Vertex.{Vertex}
 use Rattle.topology.specs.States.{State, state_of}
 use Rattle.calls.specs.declared.answer.Answer.{Answer}
 use Rattle.calls.specs.declared.call.Call.{Call}
-use Rattle.calls.specs.declared.call.Call.TheVariants.{Island, Lift, List as Listing, Counts, Ring, Side, Arc, Vertex as VertexOf}
+use Rattle.calls.specs.declared.call.Call.TheVariants.{Island, Lift, Split, Divide, Dissolve, List as Listing, Counts, Ring, Side, Arc, Vertex as VertexOf}
 use Rattle.calls.specs.Outcomes.{with_run, Played}
 use Rattle.call_lines.specs.declared.line.Line.{Line}
 use Rattle.call_lines.specs.declared.line.Line.TheVariants.{Passed, Called, Unfit}
@@ -19,6 +19,9 @@ use Rattle.journal.specs.Steps.{room, Done, Stepped}
 room_of : {R S : Type 0} (f : R → S) (c : Call R) (m : State) → room (with_run f c) m ≡ room c m
 room_of f (Island p run) m = refl
 room_of f (Lift a) m = refl
+room_of f (Split a k) m = refl
+room_of f (Divide s t run named) m = refl
+room_of f (Dissolve a) m = refl
 room_of f Listing m = refl
 room_of f Counts m = refl
 room_of f (Ring k) m = refl

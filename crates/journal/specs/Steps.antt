@@ -7,7 +7,7 @@ use Rattle.topology.specs.States.{State, state_of}
 use Rattle.listing.specs.Texts.{listing}
 use Rattle.calls.specs.declared.answer.Answer.{Answer}
 use Rattle.calls.specs.declared.call.Call.{Call}
-use Rattle.calls.specs.declared.call.Call.TheVariants.{Island, Lift, List as Listing, Counts, Ring, Side, Arc, Vertex as VertexOf}
+use Rattle.calls.specs.declared.call.Call.TheVariants.{Island, Lift, Split, Divide, Dissolve, List as Listing, Counts, Ring, Side, Arc, Vertex as VertexOf}
 use Rattle.calls.specs.Outcomes.{Played}
 use Rattle.call_lines.specs.declared.line.Line.{Line}
 use Rattle.call_lines.specs.declared.line.Line.TheVariants.{Passed, Called, Unfit}
@@ -21,6 +21,9 @@ use Rattle.journal.specs.declared.step.Step.TheVariants.{Passed as PassedOver, A
 abbrev pub room : {R : Type 0} → Call R → State → ℕ
 room (Island p run) m = 0
 room (Lift a) m = 0
+room (Split a k) m = 0
+room (Divide s t run named) m = 0
+room (Dissolve a) m = 0
 room Listing m = length (listing m)
 room Counts m = 0
 room (Ring k) m = 0
