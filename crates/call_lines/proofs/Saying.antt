@@ -1,5 +1,5 @@
 -- What a line is that says a call.
-use Rattle.std.proofs.Common.{◌≡◌, ℕ, Bool, true, false, cond, List, [], drop, Some, None, vec_items, Option, Vec, sym, refl, ap, ◌∙◌, subst, arith}
+use Rattle.std.proofs.Common.{◌≡◌, ℕ, List, [], drop, Some, None, vec_items, Option, Vec, sym, refl, ap, ◌∙◌, subst, arith}
 use Rattle.std.specs.declared.alloc.Global.{Global}
 use Rattle.std.specs.List.{list_all}
 use Rattle.std.proofs.lemmas.Bool.{cond-true, cond-false}
@@ -10,7 +10,6 @@ use Rattle.calls.specs.declared.call.Call.TheVariants.{Island}
 use Rattle.calls.specs.Outcomes.{with_run}
 use Rattle.call_lines.specs.declared.expected.Expected.{Expected}
 use Rattle.call_lines.specs.declared.expected.Expected.TheVariants.{IslandCall}
-use Rattle.call_lines.specs.declared.line.Line.{Line}
 use Rattle.call_lines.specs.declared.line.Line.TheVariants.{Unfit, Called}
 use Rattle.line_words.specs.LineWords.{word}
 use Rattle.call_lines.specs.Spoken.{is_vertex, and_run, one_and_run, with, call_of, Run, RunOf, Same, Says}

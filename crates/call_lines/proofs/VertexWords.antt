@@ -1,7 +1,6 @@
 -- A word that writes a vertex, and a run of such words.
-use Rattle.std.proofs.Common.{◌≡◌, ℕ, zero, suc, ◌+◌, ◌<◌, Bool, true, false, ◌&&◌, List, [], ◌∷◌, ◌++◌, length, get_or, Some, None, Option, sym, refl, ap, ◌∙◌, subst, arith, below_more}
+use Rattle.std.proofs.Common.{◌≡◌, ℕ, zero, suc, ◌+◌, ◌<◌, Bool, true, false, List, [], ◌∷◌, ◌++◌, length, get_or, Some, Option, sym, refl, ap, ◌∙◌, subst, arith, below_more}
 use lib.ListN.{get_or-append}
-use lib.Ieee.{Float}
 use Rattle.std.specs.Float.Parse.{is_float_text}
 use Rattle.std.specs.Str.Iter.{LacksByte}
 use Rattle.std.specs.List.{list_all}

@@ -1,5 +1,5 @@
 -- A call is played beside the text that it wants, and a line by its call.
-use Rattle.std.proofs.Common.{◌≡◌, ℕ, List, [], ◌++◌, length, take, replicate, vec_items, Vec, sym, refl, ap, ◌∙◌, subst, arith}
+use Rattle.std.proofs.Common.{◌≡◌, ℕ, List, ◌++◌, length, take, replicate, vec_items, Vec, sym, refl, ap, ◌∙◌, subst, arith}
 use Rattle.std.specs.declared.alloc.Global.{Global}
 use Rattle.std.proofs.lemmas.List.{take_all, take-append-le}
 use Rattle.topology.specs.declared.map.Map.{Map}

@@ -1,5 +1,5 @@
 -- Where a line ends.
-use Rattle.std.specs.Prelude.{ℕ, ◌-◌, Bool, cond, ◌&&◌, List, length, take, ◌==◌, nat_lt, slice_index}
+use Rattle.std.specs.Prelude.{ℕ, ◌-◌, cond, ◌&&◌, List, length, take, ◌==◌, nat_lt, slice_index}
 
 -- without the byte b at the end, where it stands there
 abbrev pub without : ℕ → List ℕ → List ℕ

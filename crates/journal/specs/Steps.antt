@@ -1,5 +1,5 @@
 -- What a line of a journal comes to.
-use Rattle.std.specs.Prelude.{◌≡◌, ℕ, List, [], length, replicate, vec_items, Vec}
+use Rattle.std.specs.Prelude.{◌≡◌, ℕ, List, length, replicate, vec_items, Vec}
 use Rattle.std.specs.declared.alloc.Global.{Global}
 use Rattle.topology.specs.declared.map.Map.{Map}
 use Rattle.topology.specs.declared.vertex.Vertex.{Vertex}
@@ -11,8 +11,7 @@ use Rattle.calls.specs.declared.call.Call.TheVariants.{Island, Lift, Split, Divi
 use Rattle.calls.specs.Outcomes.{Played}
 use Rattle.call_lines.specs.declared.line.Line.{Line}
 use Rattle.call_lines.specs.declared.line.Line.TheVariants.{Passed, Called, Unfit}
-use Rattle.line_words.specs.LineWords.{words_of}
-use Rattle.call_lines.specs.Spoken.{spoken, Same}
+use Rattle.call_lines.specs.Spoken.{Same}
 use Rattle.answer_lines.specs.AnswerTexts.{AnswerText}
 use Rattle.journal.specs.declared.step.Step.{Step}
 use Rattle.journal.specs.declared.step.Step.TheVariants.{Passed as PassedOver, Answered, Unfit as NoCall}

@@ -1,4 +1,4 @@
-use Rattle.std.proofs.Common.{◌≡◌, ℕ, ◌<◌, true, length, get_or, vec_items, vec_len}
+use Rattle.std.proofs.Common.{◌≡◌, ℕ, ◌<◌, true, length, get_or, vec_items}
 use Rattle.topology.specs.Rows.{no_vertex}
 use Rattle.line_words.specs.LineWords.{texts, word}
 use Rattle.call_lines.specs.Spoken.{coordinates, is_vertex, Written}
