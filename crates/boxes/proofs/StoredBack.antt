@@ -4,7 +4,7 @@ use borrow.Rule.Slice.PartMut.{put_mid}
 use lib.Ieee.{Float, binary64, of_bits, to_bits, fits}
 use lib.Ieee.Bits.{of_bits-to_bits, to_bits-lt}
 use Rattle.std.specs.Float.{float_is_finite}
-use Rattle.std.specs.List.{AllByRecursion as All}
+use Rattle.std.specs.List.{AllByRecursion}
 use Rattle.std.proofs.ByRecursion.{All-take, All-drop}
 use Rattle.media.specs.Runs.{run, overwrite}
 use Rattle.media.proofs.RunLaws.{length_run}
@@ -16,7 +16,7 @@ use Rattle.boxes.proofs.Order.{toBits_back}
 pub bit_for_bit : (x : Float) → float_is_finite x ≡ true → BitForBit x (double_bytes x)
 bit_for_bit x f bs k bytes h e =
     let n : length (run bs k 8) ≡ 8 = length_run bs k 8 h in
-    let all : All (λ b. b < 256) (run bs k 8) = All-take (λ b. b < 256) 8 (drop k bs) (All-drop (λ b. b < 256) k bs bytes) in
+    let all : AllByRecursion (λ b. b < 256) (run bs k 8) = All-take (λ b. b < 256) 8 (drop k bs) (All-drop (λ b. b < 256) k bs bytes) in
     let lt : little (run bs k 8) < 2 ^ 64 = subst (λ m. little (run bs k 8) < 256 ^ m) n (little_lt (run bs k 8) all) in
     let b : to_bits binary64 x ≡ little (run bs k 8) = ap (to_bits binary64) (sym e) ∙ toBits_back (little (run bs k 8)) lt (ap float_is_finite e ∙ f) in
     let d : digits 8 (little (run bs k 8)) ≡ run bs k 8 = subst (λ m. digits m (little (run bs k 8)) ≡ run bs k 8) n (digits_little (run bs k 8) all) in

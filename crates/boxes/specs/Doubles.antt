@@ -1,7 +1,7 @@
 -- Doubles as they are stored: IEEE binary64, the lowest byte first.
 use Rattle.std.specs.Prelude.{◌≡◌, ℕ, ◌+◌, ◌<◌, ◌≤◌, true, false, ◌⊎◌, List, length, Ok, Err, Result, from_bits, to_bits, Float}
 use Rattle.std.specs.Float.{float_is_finite, binary64}
-use Rattle.std.specs.List.{AllByRecursion as All}
+use Rattle.std.specs.List.{AllByRecursion}
 use Rattle.refusal.specs.declared.Refusal.{Refusal}
 use Rattle.refusal.specs.declared.Refusal.TheVariants.{PastEnd, NotFinite}
 use Rattle.media.specs.Runs.{run, overwrite}
@@ -17,7 +17,7 @@ double_bytes x = digits 8 (to_bits binary64 x)
 
 -- ws are the eight bytes that stand wherever x is read from
 abbrev pub BitForBit : Float → List ℕ → Type 0
-BitForBit x ws = (bs : List ℕ) (k : ℕ) → All (λ b. b < 256) bs → k + 8 ≤ length bs → double_at bs k ≡ x → run bs k 8 ≡ ws
+BitForBit x ws = (bs : List ℕ) (k : ℕ) → AllByRecursion (λ b. b < 256) bs → k + 8 ≤ length bs → double_at bs k ≡ x → run bs k 8 ≡ ws
 
 -- A double is stored at a place: was and is are the bytes before and after.
 abbrev pub StoredDouble : {X : Type 0} → List ℕ → ℕ → Float → List ℕ → Result X Refusal → Type 0

@@ -1,6 +1,6 @@
 use Rattle.std.proofs.Common.{◌≡◌, ℕ, zero, suc, ◌+◌, ◌*◌, ◌/◌, ◌%◌, ◌^◌, ◌<◌, ◌≤◌, List, [], ◌∷◌, length, sym, refl, ap, ◌∙◌, pow-suc, arith}
 use borrow.Rule.Slice.PartMut.{put_mid}
-use Rattle.std.specs.List.{AllByRecursion as All}
+use Rattle.std.specs.List.{AllByRecursion}
 use Rattle.std.proofs.lemmas.Nat.{div_below}
 use Rattle.media.specs.Runs.{run, overwrite}
 use Rattle.media.proofs.RunLaws.{run_overwrite, putMid_overwrite}
@@ -18,7 +18,7 @@ little_digits (suc w) n h =
     omega (arith, little_digits w (n / 256) k)
 
 -- bytes are written again as they were
-pub digits_little : (bs : List ℕ) → All (λ b. b < 256) bs → digits (length bs) (little bs) ≡ bs
+pub digits_little : (bs : List ℕ) → AllByRecursion (λ b. b < 256) bs → digits (length bs) (little bs) ≡ bs
 digits_little [] h = refl
 digits_little (b ∷ bs) h =
     let q : (b + 256 * little bs) / 256 ≡ little bs = omega (arith, h.0) in
@@ -48,7 +48,7 @@ digits_8 n =
     let g : n / 72057594037927936 ≡ n / 256 / 256 / 256 / 256 / 256 / 256 / 256 = omega arith in
     rw (a, b, d, e, f, g)
 
-pub little_lt : (bs : List ℕ) → All (λ b. b < 256) bs → little bs < 256 ^ length bs
+pub little_lt : (bs : List ℕ) → AllByRecursion (λ b. b < 256) bs → little bs < 256 ^ length bs
 little_lt [] h = omega arith
 little_lt (b ∷ bs) h = rw pow-suc (omega (arith, little_lt bs h.1, h.0))
 

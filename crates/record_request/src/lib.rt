@@ -1,7 +1,7 @@
 // A request for the records of a file, in the words of a command line.
 #![tactic(auto)]
 
-ghost use Rattle.std.specs.Prelude.{◌≡◌, ◌≤◌, false, length, drop, is_some, Some, Ok, Result};
+ghost use Rattle.std.specs.Prelude.{◌≡◌, IfOk, None, ◌≤◌, false, length, drop, is_some, Some, Ok, Result};
 ghost use Rattle.std.specs.Float.Parse.{is_float_text};
 ghost use Rattle.words.specs.Words.{Decimal};
 ghost use Rattle.record_request.specs.Requests.{texts, word, arcs_option, Corners, corners, Drawn, WindowGiven, is_new, with_arcs, with_window, options, Given, Gives, request, asked, Answers};
@@ -191,7 +191,8 @@ fn request_of(letter: char, given: Result<Options, Fault>) -> Result<Request, Fa
 /// Usage for another word than an option that was not given before, Arcs where no whole number follows `--arcs`, Window where not four decimal numbers follow `--window`;
 /// and then NoBoxes for nodes by window.
 pub fn read_request(words: &[String]) -> Result<Request, Fault>
-    ensures { Answers (asked (texts words.now)) result }
+    ensures nodes { IfOk result (λ q. q.letter ≡ 78 → q.window ≡ None) }
+    ensures answers { Answers (asked (texts words.now)) result }
 {
     let Some((letter, others)) = words.split_first() else {
         return Err(Fault::Usage);
