@@ -44,9 +44,9 @@ abbrev pub vertices_used : State → ℕ
 vertices_used m = length m.vertices
 
 -- rows that were never in use stay as they were
-pub record FreeRows (most-sides most-vertices : ℕ) (was is : Map) : Type 0 where
-  pub free_sides : (k : ℕ) → most-sides ≤ k → drop k is.sides.rows.now ≡ drop k was.sides.rows.now
-  pub free_vertices : (k : ℕ) → most-vertices ≤ k → drop k is.vertices.rows.now ≡ drop k was.vertices.rows.now
+pub record FreeRows (most_sides most_vertices : ℕ) (was is : Map) : Type 0 where
+  pub free_sides : (k : ℕ) → most_sides ≤ k → drop k is.sides.rows.now ≡ drop k was.sides.rows.now
+  pub free_vertices : (k : ℕ) → most_vertices ≤ k → drop k is.vertices.rows.now ≡ drop k was.vertices.rows.now
 
 -- the calls were played, or there was no room for the answers and all is as it was
 abbrev pub Runs : List (Call (List Vertex)) → Map → Map → List ℕ → List ℕ → List Answer → List Answer → Result (Unit {0}) Refusal → Type 0

@@ -1,7 +1,6 @@
 // Starts a blank map, plays the lines of standard input on it, and answers each call on standard output.
 #![tactic(auto)]
 
-use anyhow::anyhow;
 use journal::ends::line_of;
 use journal::playing::play_line;
 use journal::step::Step;
@@ -10,57 +9,69 @@ use journal_settings::settings::Settings;
 use std::env;
 use std::fmt::Display;
 use std::io::{BufRead, BufReader, Write};
+use std::process::ExitCode;
 use topology::map::Map;
 use topology::side::Side;
 use topology::vertex::Vertex;
 
 // Says what is wrong in one line on standard error, and ends with status 1.
-fn stop(rt: &HostRuntime, what: &(impl Display + Drop)) -> anyhow::Result<()> {
+fn stop(rt: &HostRuntime, what: &(impl Display + Drop)) -> anyhow::Result<ExitCode> {
     eprintln!(rt; "sheet_journal: {what}")?;
-    Err(anyhow!("stopped"))
+    Ok(ExitCode::FAILURE)
 }
 
 // Says what is wrong with a line.
-fn stop_at(rt: &HostRuntime, number: u64, what: &(impl Display + Drop)) -> anyhow::Result<()> {
+fn stop_at(
+    rt: &HostRuntime,
+    number: u64,
+    what: &(impl Display + Drop),
+) -> anyhow::Result<ExitCode> {
     eprintln!(rt; "sheet_journal: line {number}: {what}")?;
-    Err(anyhow!("stopped"))
+    Ok(ExitCode::FAILURE)
 }
 
-// Plays one line, and writes its answer.
-fn answer(rt: &HostRuntime, map: &mut Map, number: u64, bytes: &[u8]) -> anyhow::Result<()> {
+// Plays one line, and writes its answer. The status with which the program ends at this line, or none where the journal goes on.
+fn answer(
+    rt: &HostRuntime,
+    map: &mut Map,
+    number: u64,
+    bytes: &[u8],
+) -> anyhow::Result<Option<ExitCode>> {
     let Ok(line) = std::str::from_utf8(line_of(bytes)) else {
-        return stop_at(rt, number, &"not UTF-8");
+        return Ok(Some(stop_at(rt, number, &"not UTF-8")?));
     };
     match play_line(rt.alloc(), map, line) {
-        Ok(Step::Passed) => Ok(()),
+        Ok(Step::Passed) => Ok(None),
         Ok(Step::Answered(text)) => match rt.stdout().write_all(text.as_slice()) {
-            Ok(_) => Ok(()),
-            Err(e) => stop_at(rt, number, &e),
+            Ok(_) => Ok(None),
+            Err(e) => Ok(Some(stop_at(rt, number, &e)?)),
         },
         Ok(Step::Unfit(expected)) => {
             eprintln!(rt; "sheet_journal: line {number}: expected {expected}")?;
-            Err(anyhow!("no call"))
+            Ok(Some(ExitCode::FAILURE))
         }
-        Err(fault) => stop_at(rt, number, &fault),
+        Err(fault) => Ok(Some(stop_at(rt, number, &fault)?)),
     }
 }
 
 // Plays the lines of standard input.
-fn play(rt: &HostRuntime, map: &mut Map) -> anyhow::Result<()> {
+fn play(rt: &HostRuntime, map: &mut Map) -> anyhow::Result<ExitCode> {
     let mut input = BufReader::new(rt.alloc(), rt.stdin())?;
     for number in 1..u64::MAX {
         let mut bytes = Vec::new(rt.alloc());
         match input.read_until(b'\n', &mut bytes) {
-            Ok(0) => return Ok(()),
-            Ok(_) => answer(rt, map, number, bytes.as_slice())?,
+            Ok(0) => return Ok(ExitCode::SUCCESS),
+            Ok(_) => if let Some(status) = answer(rt, map, number, bytes.as_slice())? {
+                return Ok(status);
+            },
             Err(e) => return stop_at(rt, number, &e),
         }
     }
-    Ok(())
+    Ok(ExitCode::SUCCESS)
 }
 
 // A blank map over tables of its own, and the lines played on it.
-fn run(rt: &HostRuntime, settings: Settings) -> anyhow::Result<()> {
+fn run(rt: &HostRuntime, settings: Settings) -> anyhow::Result<ExitCode> {
     let heap = rt.alloc();
     let no_side = Side {
         node: 0,
@@ -80,7 +91,7 @@ fn run(rt: &HostRuntime, settings: Settings) -> anyhow::Result<()> {
     play(rt, &mut map)
 }
 
-fn main(rt: HostRuntime) -> anyhow::Result<()> {
+fn main(rt: HostRuntime) -> anyhow::Result<ExitCode> {
     let heap = rt.alloc();
     let mut words = Vec::new(heap);
     for word in env::args(&rt)?.skip(1) {

@@ -1,19 +1,19 @@
 // Finds the records of a MiraMon file that meet a window, and prints each record and its list with their places.
 #![tactic(auto)]
 
-use anyhow::anyhow;
 use record_answer::answer::Answer;
 use record_answer::answers::answer;
 use record_request::{Fault, read_request};
+use std::process::ExitCode;
 use std::{env, fs};
 
 // Says what is wrong in one line on standard error, and ends with status 1.
-fn stop(rt: &HostRuntime, fault: Fault) -> anyhow::Result<()> {
+fn stop(rt: &HostRuntime, fault: Fault) -> anyhow::Result<ExitCode> {
     eprintln!(rt; "sheet_records: {fault}")?;
-    Err(anyhow!("wrong words"))
+    Ok(ExitCode::FAILURE)
 }
 
-fn main(rt: HostRuntime) -> anyhow::Result<()> {
+fn main(rt: HostRuntime) -> anyhow::Result<ExitCode> {
     let heap = rt.alloc();
     let mut words = Vec::new(heap);
     for word in env::args(&rt)?.skip(1) {
@@ -30,7 +30,7 @@ fn main(rt: HostRuntime) -> anyhow::Result<()> {
         Ok(bytes) => bytes,
         Err(e) => {
             eprintln!(rt; "sheet_records: cannot read {path}: {e}")?;
-            return Err(anyhow!("no file"));
+            return Ok(ExitCode::FAILURE);
         }
     };
     match answer(
@@ -42,17 +42,17 @@ fn main(rt: HostRuntime) -> anyhow::Result<()> {
     ) {
         Ok(Answer::Text(text)) => {
             print!(rt; "{text}")?;
-            Ok(())
+            Ok(ExitCode::SUCCESS)
         }
         Ok(Answer::Refused(e)) => {
             let number = e.number();
             println!(rt; "refused {number}")?;
-            Err(anyhow!("refused"))
+            Ok(ExitCode::FAILURE)
         }
         Ok(Answer::NoBoxes) => stop(&rt, Fault::NoBoxes),
         Err(_) => {
             eprintln!(rt; "sheet_records: no memory for the report")?;
-            Err(anyhow!("no memory"))
+            Ok(ExitCode::FAILURE)
         }
     }
 }

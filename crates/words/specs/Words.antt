@@ -24,7 +24,7 @@ only (c ∷ d ∷ cs) = None
 abbrev pub character_of : List ℕ → Option ℕ
 character_of bs = only (chars bs)
 
--- What Rust's `parse` reads as a double: `floatText` says of which texts, and a whole number of 64 bits is read as the double nearest to it.
+-- What Rust's `parse` reads as a double: `is_float_text` says of which texts, and a whole number of 64 bits is read as the double nearest to it.
 -- A text is read if it is a sign or none, digits with at most one point, an exponent or none; or `inf`, `infinity` or `nan` in any case.
 abbrev pub Parsed : List ℕ → Option Float → Type 0
 Parsed bs None = is_float_text bs ≡ false
