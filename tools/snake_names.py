@@ -55,7 +55,21 @@ for p in rt:
 
 # Names that would fall together with a word of a library or another local name get another one. Those that are left below mean the same
 # as what they fall together with: a fact of `Lawful` and the ghost field of `Map` that states it, a definition and the function that computes it.
-APART = {"is-nan": "nan_from_test", "t-top": "turned_top", "low-o": "low_at_o", "low-one": "low_at_one", "node-o": "node_at_o"}
+APART = {
+    "is-nan": "nan_from_test",
+    "t-top": "turned_top",
+    "low-o": "low_at_o",
+    "low-one": "low_at_one",
+    "node-o": "node_at_o",
+    # the definition, beside the ghost member list_place of RecordTable
+    "list-place": "list_start",
+    # names that had parts of older names of the library in them
+    "ofBits-finite": "of_bits_finite",
+    "toBits-back": "to_bits_back",
+    "putMid-overwrite": "put_mid_overwrite",
+    "getD-content": "get_or_content",
+    "run-from-getD": "run_from_get_or",
+}
 
 
 def snake(n):

@@ -11,14 +11,14 @@ use Rattle.media.proofs.RunLaws.{length_run}
 use Rattle.editions.specs.Numbers.{little, digits}
 use Rattle.boxes.specs.Doubles.{double_at, double_bytes, BitForBit}
 use Rattle.editions.proofs.DigitLaws.{digits_little, little_lt, stored_number}
-use Rattle.boxes.proofs.Order.{toBits_back}
+use Rattle.boxes.proofs.Order.{to_bits_back}
 
 pub bit_for_bit : (x : Float) → float_is_finite x ≡ true → BitForBit x (double_bytes x)
 bit_for_bit x f bs k bytes h e =
     let n : length (run bs k 8) ≡ 8 = length_run bs k 8 h in
     let all : AllByRecursion (λ b. b < 256) (run bs k 8) = All-take (λ b. b < 256) 8 (drop k bs) (All-drop (λ b. b < 256) k bs bytes) in
     let lt : little (run bs k 8) < 2 ^ 64 = subst (λ m. little (run bs k 8) < 256 ^ m) n (little_lt (run bs k 8) all) in
-    let b : to_bits binary64 x ≡ little (run bs k 8) = ap (to_bits binary64) (sym e) ∙ toBits_back (little (run bs k 8)) lt (ap float_is_finite e ∙ f) in
+    let b : to_bits binary64 x ≡ little (run bs k 8) = ap (to_bits binary64) (sym e) ∙ to_bits_back (little (run bs k 8)) lt (ap float_is_finite e ∙ f) in
     let d : digits 8 (little (run bs k 8)) ≡ run bs k 8 = subst (λ m. digits m (little (run bs k 8)) ≡ run bs k 8) n (digits_little (run bs k 8) all) in
     sym (ap (digits 8) b ∙ d)
 

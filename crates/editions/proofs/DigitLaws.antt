@@ -3,7 +3,7 @@ use borrow.Rule.Slice.PartMut.{put_mid}
 use Rattle.std.specs.List.{AllByRecursion}
 use Rattle.std.proofs.lemmas.Nat.{div_below}
 use Rattle.media.specs.Runs.{run, overwrite}
-use Rattle.media.proofs.RunLaws.{run_overwrite, putMid_overwrite}
+use Rattle.media.proofs.RunLaws.{run_overwrite, put_mid_overwrite}
 use Rattle.editions.specs.Numbers.{little, digits, number_at}
 
 pub length_digits : (w n : ℕ) → length (digits w n) ≡ w
@@ -56,5 +56,5 @@ little_lt (b ∷ bs) h = rw pow-suc (omega (arith, little_lt bs h.1, h.0))
 pub stored_number : (bs : List ℕ) (at w n k : ℕ) (ys : List ℕ) → k ≡ w → at + w ≤ length bs → n < 256 ^ w → ys ≡ digits w n
     → (at + w ≤ length bs) × (n < 256 ^ w) × (put_mid at k bs ys ≡ overwrite bs at (digits w n)) × (number_at w (put_mid at k bs ys) at ≡ n)
 stored_number bs at w n k ys q h l e =
-    let d : put_mid at k bs ys ≡ overwrite bs at (digits w n) = putMid_overwrite at k bs ys (digits w n) e (q ∙ sym (length_digits w n)) in
+    let d : put_mid at k bs ys ≡ overwrite bs at (digits w n) = put_mid_overwrite at k bs ys (digits w n) e (q ∙ sym (length_digits w n)) in
     (h, l, d, ap (λ is. number_at w is at) d ∙ little_stored bs at w n h l)

@@ -6,8 +6,8 @@ use Rattle.std.proofs.lemmas.Bool.{cases_eq}
 use Rattle.media.specs.Runs.{run, overwrite}
 
 -- a write through `&mut s[a..e]`, as a goal has it, is an overwrite
-pub putMid_overwrite : {X : Type 0} (a k : ℕ) (xs ys zs : List X) → ys ≡ zs → k ≡ length zs → put_mid a k xs ys ≡ overwrite xs a zs
-putMid_overwrite a k xs ys zs e f = rw (e, f, drop-drop)
+pub put_mid_overwrite : {X : Type 0} (a k : ℕ) (xs ys zs : List X) → ys ≡ zs → k ≡ length zs → put_mid a k xs ys ≡ overwrite xs a zs
+put_mid_overwrite a k xs ys zs e f = rw (e, f, drop-drop)
 
 pub length_run : {X : Type 0} (xs : List X) (a n : ℕ) → a + n ≤ length xs → length (run xs a n) ≡ n
 length_run xs a n h = simp (length-take, length-drop) (omega arith)

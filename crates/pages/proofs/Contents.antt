@@ -10,8 +10,8 @@ use Rattle.pages.specs.Paging.{Below, Apart, byte_at, stored, content}
 pub length_content : (pages : List (List ℕ)) (ps : List ℕ) (n : ℕ) → length (content pages ps n) ≡ 512 * n
 length_content pages ps n = length-map-range_with_len (byte_at pages ps) 0 (512 * n)
 
-pub getD_content : (pages : List (List ℕ)) (ps : List ℕ) (n a : ℕ) → a < 512 * n → get_or (content pages ps n) a 0 ≡ byte_at pages ps a
-getD_content pages ps n a h = get_or-map-range_with_len (byte_at pages ps) 0 (512 * n) a a 0 h (omega arith)
+pub get_or_content : (pages : List (List ℕ)) (ps : List ℕ) (n a : ℕ) → a < 512 * n → get_or (content pages ps n) a 0 ≡ byte_at pages ps a
+get_or_content pages ps n a h = get_or-map-range_with_len (byte_at pages ps) 0 (512 * n) a a 0 h (omega arith)
 
 -- what a store at the place of byte a leaves there
 pub byte_same : (pages : List (List ℕ)) (ps : List ℕ) (a v : ℕ) → get_or ps (a / 512) 0 < length pages → length (get_or pages (get_or ps (a / 512) 0) []) ≡ 512
@@ -42,10 +42,10 @@ content_stored pages ps n a v below apart m w h =
     let after = stored pages p (a % 512) v in
     ext_get_or 0 _ _ (length_content after ps n ∙ sym (length-set (content pages ps n) a v ∙ length_content pages ps n))
     (λ k l. let l' : k < 512 * n = omega (arith, length_content after ps n) in
-    getD_content after ps n k l' ∙
+    get_or_content after ps n k l' ∙
     ⊎_elim {C = byte_at after ps k ≡ get_or (set (content pages ps n) a v) k 0}
     (λ (e : k ≡ a). rw e (byte_same pages ps a v (omega (arith, below (a / 512) (omega arith))) w ∙ sym (get_or-set_same (content pages ps n) a v 0 (omega (arith, length_content pages ps n)))))
-    (λ (ne : k ≢ a). byte_other pages ps n a k v below apart m h l' ne ∙ sym (get_or-set_other (content pages ps n) a k v 0 ne ∙ getD_content pages ps n k l'))
+    (λ (ne : k ≢ a). byte_other pages ps n a k v below apart m h l' ne ∙ sym (get_or-set_other (content pages ps n) a k v 0 ne ∙ get_or_content pages ps n k l'))
     (cases_eq k a))
 
 -- the turn of a loop that stores byte after byte
@@ -56,6 +56,6 @@ store_more pages was ps ws n at i below apart m g w h l e =
     content_stored pages ps n (at + i) (get_or ws i 0) below apart m g (omega arith) ∙ rw e (overwrite_more was ws at i 0 (omega arith) l)
 
 -- a buffer that agrees with a list at each place from `at` on is that run of it
-pub run_from_getD : (is bs : List ℕ) (at n : ℕ) → length is ≡ n → at + n ≤ length bs → ((k : ℕ) → k < n → get_or is k 0 ≡ get_or bs (at + k) 0) → is ≡ run bs at n
-run_from_getD is bs at n e h f =
+pub run_from_get_or : (is bs : List ℕ) (at n : ℕ) → length is ≡ n → at + n ≤ length bs → ((k : ℕ) → k < n → get_or is k 0 ≡ get_or bs (at + k) 0) → is ≡ run bs at n
+run_from_get_or is bs at n e h f =
     ext_get_or 0 _ _ (e ∙ sym (length_run bs at n h)) (λ k l. let l' : k < n = omega arith in f k l' ∙ sym (get_or-take n _ k 0 l' ∙ get_or-drop at bs k 0))

@@ -24,14 +24,14 @@ entries Arcs w bs at = number_at w bs (at + 32)
 entries Nodes w bs at = number_at 2 bs at
 entries Polygons w bs at = number_at w bs (at + 32)
 
-abbrev pub list_place : Kind → ℕ → List ℕ → ℕ → ℕ
-list_place Points w bs at = 0
-list_place Arcs w bs at = number_at w bs (at + (32 + w))
-list_place Nodes w bs at = number_at w bs (at + 4)
-list_place Polygons w bs at = number_at w bs (at + (32 + 3 * w))
+abbrev pub list_start : Kind → ℕ → List ℕ → ℕ → ℕ
+list_start Points w bs at = 0
+list_start Arcs w bs at = number_at w bs (at + (32 + w))
+list_start Nodes w bs at = number_at w bs (at + 4)
+list_start Polygons w bs at = number_at w bs (at + (32 + 3 * w))
 
 abbrev list_from : Kind → ℕ → List ℕ → Result (ℕ × ℕ) Refusal → Result (ℕ × ℕ) Refusal
-list_from kind w bs (Ok (at, n)) = part_outcome bs (list_place kind w bs at) (entries kind w bs at * entry_size kind w)
+list_from kind w bs (Ok (at, n)) = part_outcome bs (list_start kind w bs at) (entries kind w bs at * entry_size kind w)
 list_from kind w bs (Err e) = Err e
 
 -- The list of record k: 20 when there is no such record, then 1 when the list passes the end. A point's list is empty, at 0.

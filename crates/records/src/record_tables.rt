@@ -2,7 +2,7 @@ ghost use Rattle.std.specs.Prelude.{◌≡◌, ℕ, ◌+◌, ◌*◌, ◌<◌, �
 ghost use Rattle.kinds.specs.Sizes.{record_size};
 ghost use Rattle.layout.specs.Versions.{width};
 ghost use Rattle.editions.specs.Numbers.{number_at};
-ghost use Rattle.records.specs.Parts.{record_outcome, list_outcome, list_place, entries};
+ghost use Rattle.records.specs.Parts.{record_outcome, list_outcome, list_start, entries};
 ghost use Rattle.tables.specs.Handing.{Handed};
 ghost use Rattle.records.specs.Boxing.{box_outcome};
 ghost use Rattle.tables.specs.Windows.{told};
@@ -36,7 +36,7 @@ fn list_head(
     at: usize,
 ) -> Result<(usize, usize), Refusal>
     requires { at + record_size kind (width version) ≤ length file.now }
-    ensures { result ≡ Ok (list_place kind (width version) file.now at, entries kind (width version) file.now at) }
+    ensures { result ≡ Ok (list_start kind (width version) file.now at, entries kind (width version) file.now at) }
 {
     let w = version.sizes().number;
     match kind {

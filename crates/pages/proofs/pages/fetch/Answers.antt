@@ -1,7 +1,7 @@
 use Rattle.std.proofs.Common.{◌+◌, ◌%◌, ◌≢◌, [], length, get_or, sym, ap, ◌∙◌, arith, below_more}
 use Rattle.std.proofs.lemmas.List.{get_or-set_same, get_or-set_other}
 use Rattle.pages.specs.Paging.{content}
-use Rattle.pages.proofs.Contents.{getD_content, run_from_getD, length_content}
+use Rattle.pages.proofs.Contents.{get_or_content, run_from_get_or, length_content}
 use Rattle.pages.proofs.pages.fetch.Goals as goal
 
 pub loop-i-preserved : goal.loop-i-preserved
@@ -13,6 +13,6 @@ loop-i-preserved c =
 pub returns : goal.returns
 returns c =
     let bs = content c.args.pages.now c.args.list.now.list c.args.list.now.len in
-    run_from_getD c.loop-i.into bs c.args.at (length c.args.into.now) (omega arith)
+    run_from_get_or c.loop-i.into bs c.args.at (length c.args.into.now) (omega arith)
     (omega (arith, length_content c.args.pages.now c.args.list.now.list c.args.list.now.len))
-    (λ k h. c.loop-i.invariant k (omega arith) ∙ sym (getD_content c.args.pages.now c.args.list.now.list c.args.list.now.len (c.args.at + k) (omega arith)))
+    (λ k h. c.loop-i.invariant k (omega arith) ∙ sym (get_or_content c.args.pages.now c.args.list.now.list c.args.list.now.len (c.args.at + k) (omega arith)))
