@@ -1,4 +1,4 @@
-// The search, for the benchmark's Rust program.
+// The search and the listing, for the benchmarks' Rust programs.
 #![tactic(auto)]
 
 ghost use Rattle.std.specs.Prelude.{◌≡◌};
