@@ -8,6 +8,8 @@ use topology::vertex::Vertex;
 use words::decimal;
 
 // Whether two doubles are the same, zeros of two signs apart.
+// Stays: std's == makes one of the two zeros, and its total_cmp takes no NaN.
+#[tactic(auto, using(crate::proofs::Doubles::same_bits, crate::proofs::Doubles::both_nan))]
 fn same(x: f64, y: f64) -> bool
     ensures { result ≡ true → x ≡ y }
 {
@@ -22,13 +24,10 @@ fn decimal_text(heap: Global, x: f64) -> Result<String, TextFault>
     ensures { IfOk result (λ s. Decimal (string_bytes s) (Some x)) }
 {
     let text = format!(in heap; "{x}")?;
-    match decimal(text.as_str()) {
-        Some(y) => if same(y, x) {
-            Ok(text)
-        } else {
-            Err(TextFault::ReadsOtherwise)
-        },
-        None => Err(TextFault::ReadsOtherwise),
+    if decimal(text.as_str()).is_some_and(|y| same(y, x)) {
+        Ok(text)
+    } else {
+        Err(TextFault::ReadsOtherwise)
     }
 }
 
@@ -38,6 +37,5 @@ pub(crate) fn vertex_text(heap: Global, v: Vertex) -> Result<String, TextFault>
 {
     let x = decimal_text(heap, v.x)?;
     let y = decimal_text(heap, v.y)?;
-    let text = format!(in heap; "{x} {y}\n")?;
-    Ok(text)
+    Ok(format!(in heap; "{x} {y}\n")?)
 }

@@ -1,8 +1,12 @@
+ghost use Rattle.std.specs.Prelude.{◌≡◌};
+ghost use Rattle.answer_lines.specs.declared.fault.TextFault.TheVariants.{NoMemory};
+
 use std::alloc::AllocError;
+use std::error::Error;
 use std::fmt;
 
 /// Why an answer has no text.
-#[derive(Clone, Copy, Debug, Drop)]
+#[derive(Clone, Copy, PartialEq, Eq, Debug)]
 pub enum TextFault {
     NoMemory,
     /// The text of a coordinate is read as another double than the coordinate.
@@ -10,8 +14,10 @@ pub enum TextFault {
 }
 
 impl From<AllocError> for TextFault {
-    fn from(_e: AllocError) -> TextFault {
-        TextFault::NoMemory
+    ghost from_gives = { λ _ fault. fault ≡ NoMemory };
+
+    fn from(_e: AllocError) -> Self {
+        Self::NoMemory
     }
 }
 
@@ -23,3 +29,5 @@ impl fmt::Display for TextFault {
         })
     }
 }
+
+impl Error for TextFault {}

@@ -1,8 +1,8 @@
 // The search and the listing, for the benchmarks' Rust programs.
 #![tactic(auto)]
 
-ghost use Rattle.std.specs.Prelude.{◌≡◌};
-ghost use Rattle.bench_export.specs.Meetings.{among, arcs_meeting};
+ghost use Rattle.std.specs.Prelude.{◌≡◌, unwrap_or};
+ghost use Rattle.bench_export.specs.Meetings.{among, arcs_meeting, refused_count};
 
 pub mod nests;
 
@@ -13,14 +13,12 @@ use records::records::Records;
 use tables::tables::count_meeting;
 use views::view::View;
 
-// How many arcs of a table meet a window.
-fn meeting(table: &Records<'_, Arcs>, edges: Edges) -> u64
-    ensures { result ≡ among table.now.file.now table.now.shape edges }
+// How many arcs of a table meet a window, where the window is not refused.
+fn meeting(table: &Records<'_, Arcs>, edges: Edges) -> Option<usize>
+    ensures { unwrap_or result refused_count ≡ among table.now.file.now table.now.shape edges }
 {
-    match Bounds::new(edges) {
-        Ok(window) => count_meeting(&*table, &window) as u64,
-        Err(_) => u64::MAX,
-    }
+    let window = Bounds::new(edges).ok()?;
+    Some(count_meeting(&*table, &window))
 }
 
 /// How many arcs of an ARC file meet a window; the largest number when the file or the window is refused.
@@ -34,16 +32,16 @@ pub extern "C" fn natharqo_arcs_meeting(
 ) -> u64
     ensures { result ≡ arcs_meeting file.now (record { minx = minx; maxx = maxx; miny = miny; maxy = maxy }) }
 {
-    let Ok(View::OfArcs(table)) = View::new('A', file, 0) else {
-        return u64::MAX;
+    let edges = Edges {
+        minx,
+        maxx,
+        miny,
+        maxy,
     };
-    meeting(
-        &table,
-        Edges {
-            minx,
-            maxx,
-            miny,
-            maxy,
-        },
-    )
+    let count = match View::new('A', file, 0) {
+        Ok(View::OfArcs(table)) => meeting(&table, edges),
+        _ => None,
+    };
+    // Stays: C has no Option, so the largest number stands for a refusal.
+    count.map_or(u64::MAX, |n| n as u64)
 }

@@ -35,17 +35,26 @@ fn add_nested(map: &mut Map<'_>, islands: usize) -> Result<(), Refusal>
 }
 
 // Lists a map, and before that so many times more.
-fn list_again(map: &Map<'_>, again: usize, out: &mut [u8]) -> u64
-    ensures size { result ≡ size_or_refused (text_outcome (listing (state_of map.now)) (length out.old)) }
+fn list_again(map: &Map<'_>, again: usize, out: &mut [u8]) -> Result<usize, Refusal>
+    ensures answer { result ≡ text_outcome (listing (state_of map.now)) (length out.old) }
     ensures leaves { out.new ≡ text_leaves (listing (state_of map.now)) out.old }
 {
     for _i in 0..again {
         let _ = list(map, out);
     }
-    match list(map, out) {
-        Ok(size) => size as u64,
-        Err(_) => u64::MAX,
-    }
+    list(map, out)
+}
+
+// Makes a map of so many nested islands, lists it, and before that so many times more.
+fn list_nested(islands: usize, again: usize, out: &mut [u8]) -> Result<usize, Refusal>
+    ensures size { size_or_refused result ≡ listed_size (length out.old) (nest islands) }
+    ensures leaves { out.new ≡ listed_leaves out.old (nest islands) }
+{
+    let mut sides = [Side::default(); 32768];
+    let mut vertices = [Vertex::default(); 65536];
+    let mut map = Map::start(Hand::Right, &mut sides, &mut vertices);
+    add_nested(&mut map, islands)?;
+    list_again(&map, again, out)
 }
 
 /// Makes a map of so many nested islands, lists it, and before that so many times more. Answers how long the listing is; the largest number when an island or the listing is refused.
@@ -54,17 +63,6 @@ pub extern "C" fn natharqo_list_nested(islands: usize, again: usize, out: &mut [
     ensures size { result ≡ listed_size (length out.old) (nest islands) }
     ensures leaves { out.new ≡ listed_leaves out.old (nest islands) }
 {
-    let mut sides = [Side {
-        node: 0,
-        row: 0,
-        polygon: 0,
-        next: 0,
-        low: 0,
-    }; 32768];
-    let mut vertices = [Vertex { x: 0.0, y: 0.0 }; 65536];
-    let mut map = Map::start(Hand::Right, &mut sides, &mut vertices);
-    if let Err(_) = add_nested(&mut map, islands) {
-        return u64::MAX;
-    }
-    list_again(&map, again, out)
+    // Stays: C has no Result, so the largest number stands for a refusal.
+    list_nested(islands, again, out).map_or(u64::MAX, |size| size as u64)
 }

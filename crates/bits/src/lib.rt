@@ -4,13 +4,12 @@
 ghost use Rattle.std.specs.Prelude.{◌≡◌, ◌<◌};
 ghost use Rattle.bits.specs.Bits.{bit, vfg_byte};
 
-// Whether a bit of a byte is set, by a mask of that bit alone.
-fn masked(byte: u8, k: u8) -> bool
+// Whether a bit of a byte is set.
+fn is_set(byte: u8, k: u8) -> bool
     requires { k < 8 }
     ensures { result ≡ bit byte k }
 {
-    let mask = 1u8 << k;
-    byte & mask != 0
+    (byte >> k) % 2 == 1
 }
 
 /// The flag byte of a file's header.
@@ -30,21 +29,21 @@ impl Flags {
     pub fn verified(self) -> bool
         ensures { result ≡ bit self.byte 0 }
     {
-        masked(self.byte, Self::VERIFIED)
+        is_set(self.byte, Self::VERIFIED)
     }
 
     /// Bit 4: a PNT or ARC file has altitudes.
     pub fn three_dimensional(self) -> bool
         ensures { result ≡ bit self.byte 4 }
     {
-        masked(self.byte, Self::THREE_DIMENSIONAL)
+        is_set(self.byte, Self::THREE_DIMENSIONAL)
     }
 
     /// Bit 5: a POL file has explicit polygons, which use each arc once.
     pub fn explicit(self) -> bool
         ensures { result ≡ bit self.byte 5 }
     {
-        masked(self.byte, Self::EXPLICIT)
+        is_set(self.byte, Self::EXPLICIT)
     }
 }
 
@@ -66,30 +65,31 @@ impl Vfg {
         ensures byte { result.byte ≡ vfg_byte external ring_end turned }
         ensures bits { (bit result.byte 0 ≡ external) × (bit result.byte 1 ≡ ring_end) × (bit result.byte 2 ≡ turned) }
     {
-        let v = if external { 1u8 << Self::EXTERNAL } else { 0 };
-        let f = if ring_end { 1u8 << Self::RING_END } else { 0 };
-        let g = if turned { 1u8 << Self::TURNED } else { 0 };
-        Vfg { byte: v | f | g }
+        Vfg {
+            byte: u8::from(external) << Self::EXTERNAL
+                | u8::from(ring_end) << Self::RING_END
+                | u8::from(turned) << Self::TURNED,
+        }
     }
 
     /// Bit 0: the arc is an edge of an external ring.
     pub fn external(self) -> bool
         ensures { result ≡ bit self.byte 0 }
     {
-        masked(self.byte, Self::EXTERNAL)
+        is_set(self.byte, Self::EXTERNAL)
     }
 
     /// Bit 1: the ring ends with this entry.
     pub fn ring_end(self) -> bool
         ensures { result ≡ bit self.byte 1 }
     {
-        masked(self.byte, Self::RING_END)
+        is_set(self.byte, Self::RING_END)
     }
 
     /// Bit 2: the entry is the arc's turned side.
     pub fn turned(self) -> bool
         ensures { result ≡ bit self.byte 2 }
     {
-        masked(self.byte, Self::TURNED)
+        is_set(self.byte, Self::TURNED)
     }
 }

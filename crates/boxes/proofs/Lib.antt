@@ -1,3 +1,3 @@
-pub mod Order
+pub mod Finite
 pub mod StoredBack
 pub mod MeetLaws

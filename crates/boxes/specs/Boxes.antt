@@ -7,7 +7,7 @@ use Rattle.refusal.specs.declared.Refusal.TheVariants.{PastEnd, UnfitBox}
 use Rattle.boxes.specs.declared.edges.Edges.{Edges}
 use Rattle.boxes.specs.declared.bounds.Bounds.{Bounds}
 use Rattle.boxes.specs.Doubles.{double_at}
-use Rattle.boxes.specs.Fairs.{fair}
+pub use Rattle.boxes.specs.Fairs.{fair_edges}
 
 -- the four doubles that stand at a place: minX, maxX, minY, maxY
 abbrev pub edges_at : List ℕ → ℕ → Edges
@@ -21,12 +21,8 @@ point_at bs at = record { minx = double_at bs at; maxx = double_at bs at; miny =
 abbrev pub edges_of_bits : ℕ → ℕ → ℕ → ℕ → Edges
 edges_of_bits a b c d = record { minx = from_bits binary64 a; maxx = from_bits binary64 b; miny = from_bits binary64 c; maxy = from_bits binary64 d }
 
--- the four bounds are finite and in order
-abbrev pub fair_edges : Edges → Bool
-fair_edges e = fair e.minx e.maxx e.miny e.maxy
-
 abbrev pub edges_of : Bounds → Edges
-edges_of b = record { minx = b.minx; maxx = b.maxx; miny = b.miny; maxy = b.maxy }
+edges_of b = b.edges
 
 -- A box is made of four bounds: refused exactly when they are not finite and in order.
 abbrev pub Made : Edges → Result Bounds Refusal → Type 0

@@ -5,6 +5,7 @@ ghost use Rattle.boxes.specs.Boxes.{edges_at, point_at, edges_of, edges_of_bits,
 use super::bounds::Bounds;
 use super::doubles::{bits_at, finite_bits, finite_double, read_double};
 use super::edges::Edges;
+use media::runs::end_of;
 use refusal::Refusal;
 
 impl Edges {
@@ -12,19 +13,12 @@ impl Edges {
     pub fn read(bytes: &[u8], at: usize) -> Result<Edges, Refusal>
         ensures { Field bytes.now at 32 (edges_at bytes.now at) result }
     {
-        let size = bytes.len();
-        if at > size || 32 > size - at {
-            return Err(Refusal::PastEnd);
-        }
-        let minx = read_double(bytes, at)?;
-        let maxx = read_double(bytes, at + 8)?;
-        let miny = read_double(bytes, at + 16)?;
-        let maxy = read_double(bytes, at + 24)?;
+        end_of(bytes.len(), at, 32)?;
         Ok(Edges {
-            minx,
-            maxx,
-            miny,
-            maxy,
+            minx: read_double(bytes, at)?,
+            maxx: read_double(bytes, at + 8)?,
+            miny: read_double(bytes, at + 16)?,
+            maxy: read_double(bytes, at + 24)?,
         })
     }
 }
@@ -34,47 +28,33 @@ impl Bounds {
     pub fn new(edges: Edges) -> Result<Bounds, Refusal>
         ensures { Made edges result }
     {
-        let Edges {
-            minx,
-            maxx,
-            miny,
-            maxy,
-        } = edges;
-        if minx.is_finite()
-            && maxx.is_finite()
-            && miny.is_finite()
-            && maxy.is_finite()
-            && minx <= maxx
-            && miny <= maxy
+        if edges.minx.is_finite()
+            && edges.maxx.is_finite()
+            && edges.miny.is_finite()
+            && edges.maxy.is_finite()
+            && edges.minx <= edges.maxx
+            && edges.miny <= edges.maxy
         {
-            return Ok(Bounds {
-                minx,
-                maxx,
-                miny,
-                maxy,
-            });
+            return Ok(Bounds { edges });
         }
         Err(Refusal::UnfitBox)
     }
 
     // The box whose bounds have these bits. That they are finite is judged on the bits, so that the doubles need no care for NaN.
-    fn of_bits(a: u64, b: u64, c: u64, d: u64) -> Result<Bounds, Refusal>
-        ensures { Made (edges_of_bits a b c d) result }
+    fn of_bits(minx: u64, maxx: u64, miny: u64, maxy: u64) -> Result<Bounds, Refusal>
+        ensures { Made (edges_of_bits minx maxx miny maxy) result }
     {
-        if !(finite_bits(a) & finite_bits(b) & finite_bits(c) & finite_bits(d)) {
+        if !(finite_bits(minx) & finite_bits(maxx) & finite_bits(miny) & finite_bits(maxy)) {
             return Err(Refusal::UnfitBox);
         }
-        let minx = finite_double(a);
-        let maxx = finite_double(b);
-        let miny = finite_double(c);
-        let maxy = finite_double(d);
-        if (minx <= maxx) & (miny <= maxy) {
-            return Ok(Bounds {
-                minx,
-                maxx,
-                miny,
-                maxy,
-            });
+        let edges = Edges {
+            minx: finite_double(minx),
+            maxx: finite_double(maxx),
+            miny: finite_double(miny),
+            maxy: finite_double(maxy),
+        };
+        if (edges.minx <= edges.maxx) & (edges.miny <= edges.maxy) {
+            return Ok(Bounds { edges });
         }
         Err(Refusal::UnfitBox)
     }
@@ -83,10 +63,7 @@ impl Bounds {
     pub fn read(bytes: &[u8], at: usize) -> Result<Bounds, Refusal>
         ensures { BoxRead bytes.now at 32 (edges_at bytes.now at) result }
     {
-        let size = bytes.len();
-        if at > size || 32 > size - at {
-            return Err(Refusal::PastEnd);
-        }
+        end_of(bytes.len(), at, 32)?;
         Bounds::of_bits(
             bits_at(bytes, at),
             bits_at(bytes, at + 8),
@@ -99,10 +76,7 @@ impl Bounds {
     pub fn read_point(bytes: &[u8], at: usize) -> Result<Bounds, Refusal>
         ensures { BoxRead bytes.now at 16 (point_at bytes.now at) result }
     {
-        let size = bytes.len();
-        if at > size || 16 > size - at {
-            return Err(Refusal::PastEnd);
-        }
+        end_of(bytes.len(), at, 16)?;
         let x = bits_at(bytes, at);
         let y = bits_at(bytes, at + 8);
         Bounds::of_bits(x, x, y, y)
@@ -112,21 +86,7 @@ impl Bounds {
     pub fn edges(&self) -> Edges
         ensures { result ≡ edges_of self.now }
     {
-        Edges {
-            minx: self.minx,
-            maxx: self.maxx,
-            miny: self.miny,
-            maxy: self.maxy,
-        }
-    }
-
-    fn overlaps(&self, other: &Bounds) -> bool
-        ensures { result ≡ meets (edges_of self.now) (edges_of other.now) }
-    {
-        (self.minx <= other.maxx)
-            & (other.minx <= self.maxx)
-            & (self.miny <= other.maxy)
-            & (other.miny <= self.maxy)
+        self.edges
     }
 
     /// Whether the two share a place, edges counted.
@@ -134,6 +94,8 @@ impl Bounds {
         ensures test { result ≡ meets (edges_of self.now) (edges_of other.now) }
         ensures shares { (result ≡ true → Share (edges_of self.now) (edges_of other.now)) × (Share (edges_of self.now) (edges_of other.now) → result ≡ true) }
     {
-        self.overlaps(other)
+        let a = &self.edges;
+        let b = &other.edges;
+        (a.minx <= b.maxx) & (b.minx <= a.maxx) & (a.miny <= b.maxy) & (b.miny <= a.maxy)
     }
 }

@@ -3,6 +3,7 @@ ghost use Rattle.std.specs.Float.{float_is_finite, binary64};
 ghost use Rattle.editions.specs.Numbers.{Field, number_at};
 ghost use Rattle.boxes.specs.Doubles.{double_at, StoredDouble};
 
+use media::runs::{array_at, end_of, put_bytes};
 use refusal::Refusal;
 use std::num::f64_from_bits_with_nan;
 
@@ -17,6 +18,7 @@ pub(crate) fn bits_at(bytes: &[u8], at: usize) -> u64
 }
 
 // Whether bits are those of a finite double: the exponent's field is not all ones.
+#[tactic(auto, using(crate::proofs::Finite::of_bits_finite))]
 pub(crate) fn finite_bits(bits: u64) -> bool
     ensures { result ≡ float_is_finite (from_bits binary64 bits) }
 {
@@ -35,11 +37,8 @@ pub(crate) fn finite_double(bits: u64) -> f64
 pub fn read_double(bytes: &[u8], at: usize) -> Result<f64, Refusal>
     ensures { Field bytes.now at 8 (double_at bytes.now at) result }
 {
-    let size = bytes.len();
-    if at > size || 8 > size - at {
-        return Err(Refusal::PastEnd);
-    }
-    Ok(f64_from_bits_with_nan(bits_at(bytes, at)))
+    let raw = array_at(bytes, at)?;
+    Ok(f64_from_bits_with_nan(u64::from_le_bytes(raw)))
 }
 
 /// Stores a finite double at a place, where it is read back, in the very bytes that it was read from.
@@ -47,14 +46,9 @@ pub fn read_double(bytes: &[u8], at: usize) -> Result<f64, Refusal>
 pub fn store_double(bytes: &mut [u8], at: usize, x: f64) -> Result<(), Refusal>
     ensures { StoredDouble bytes.old at x bytes.new result }
 {
-    let size = bytes.len();
-    if at > size || 8 > size - at {
-        return Err(Refusal::PastEnd);
-    }
+    end_of(bytes.len(), at, 8)?;
     if !x.is_finite() {
         return Err(Refusal::NotFinite);
     }
-    let raw = x.to_bits().to_le_bytes();
-    bytes[at..at + 8].copy_from_slice(&raw);
-    Ok(())
+    put_bytes(bytes, at, &x.to_bits().to_le_bytes())
 }

@@ -1,3 +1,2 @@
-pub mod Commas
 pub mod VertexWords
 pub mod Saying

@@ -1,40 +1,28 @@
--- What a line is that says a call.
-use Rattle.std.proofs.Common.{◌≡◌, ℕ, List, [], drop, Some, None, vec_items, Option, Vec, sym, refl, ap, ◌∙◌, subst, arith}
+-- What is read of words that say a call.
+use Rattle.std.proofs.Common.{◌≡◌, ℕ, List, [], drop, Some, None, Option, Vec, MatchOption, IsSomeAnd, option_map, vec_items, refl, arith}
 use Rattle.std.specs.declared.alloc.Global.{Global}
-use Rattle.std.specs.List.{list_all}
-use Rattle.std.proofs.lemmas.Bool.{cond-true, cond-false}
 use Rattle.topology.specs.declared.vertex.Vertex.{Vertex}
-use Rattle.words.specs.Words.{whole_of}
 use Rattle.calls.specs.declared.call.Call.{Call}
 use Rattle.calls.specs.declared.call.Call.TheVariants.{Island}
 use Rattle.calls.specs.Outcomes.{with_run}
-use Rattle.call_lines.specs.declared.expected.Expected.{Expected}
-use Rattle.call_lines.specs.declared.expected.Expected.TheVariants.{IslandCall}
-use Rattle.call_lines.specs.declared.line.Line.TheVariants.{Unfit, Called}
 use Rattle.line_words.specs.LineWords.{word}
-use Rattle.call_lines.specs.Spoken.{is_vertex, and_run, one_and_run, with, call_of, Run, RunOf, Same, Says}
+use Rattle.words.specs.Words.{whole_of}
+use Rattle.call_lines.specs.declared.expected.Expected.TheVariants.{IslandCall}
+use Rattle.call_lines.specs.Spoken.{call_of, Run, RunOf, Same, SaysCall}
 
 pub no_run : Run [] []
 no_run = record { long = refl; each = λ k l. absurd (omega arith) }
 
--- the arguments fit the call that was named
-pub fits : {A : Type 0} (f : A → Call (List (List ℕ))) (x v : Expected) (ws : List (List ℕ)) (o : Option A) (a : A) (c : Call (Vec Vertex Global)) → v ≡ x → call_of x ws ≡ with f x o → Some a ≡ o → Same (f a) (with_run vec_items c)
-    → Says (call_of v ws) (Called c)
-fits f x v ws o a c p q e s = subst (λ w. Says (call_of w ws) (Called c)) (sym p) (subst (λ l. Says l (Called c)) (sym q) (subst (λ t. Says (with f x t) (Called c)) e (c, refl, s)))
+-- the arguments of a call, and the call that they make
+pub says : {A : Type 0} (f : A → Call (List (List ℕ))) (P : A → Call (Vec Vertex Global) → Type 0) (o : Option A) (r : Option (Call (Vec Vertex Global))) → MatchOption o (r ≡ None) (λ a. IsSomeAnd r (P a))
+    → ((a : A) (c : Call (Vec Vertex Global)) → P a c → Same (f a) (with_run vec_items c)) → SaysCall (option_map f o) r
+says f P None r h s = rw h refl
+says f P (Some a) None h s = absurd h
+says f P (Some a) (Some c) h s = (f a, refl, s a c h)
 
-abbrev island : ℕ × List (List ℕ) → Call (List (List ℕ))
-island a = Island a.0 a.1
-
--- the words of an island: the polygon's number, and the words of its run
-pub island_words : (ws vs : List (List ℕ)) (polygon : ℕ) → Some polygon ≡ whole_of (word ws 1) → vs ≡ drop 2 ws → one_and_run ws ≡ and_run (Some polygon) vs
-island_words ws vs polygon p q = ap (λ o. and_run o (drop 2 ws)) (sym p) ∙ ap (and_run (Some polygon)) (sym q)
-
-pub island_fits : (ws vs : List (List ℕ)) (polygon : ℕ) (o : Option (Vec Vertex Global)) (run : Vec Vertex Global) → one_and_run ws ≡ and_run (Some polygon) vs → o ≡ Some run → RunOf vs o
-    → Says (call_of IslandCall ws) (Called (Island polygon run))
-island_fits ws vs polygon o run e p r =
-    let (f, h) = subst (RunOf vs) p r in
-    fits island IslandCall IslandCall ws (one_and_run ws) (polygon, vs) (Island polygon run) refl refl (sym (e ∙ cond-true (list_all is_vertex vs) _ _ f)) (record { call = refl; run = h })
-
-pub island_unfit : (ws vs : List (List ℕ)) (polygon : ℕ) (o : Option (Vec Vertex Global)) → one_and_run ws ≡ and_run (Some polygon) vs → o ≡ None → RunOf vs o → Says (call_of IslandCall ws) (Unfit IslandCall)
-island_unfit ws vs polygon o e p r =
-    subst (λ t. Says (with island IslandCall t) (Unfit IslandCall)) (sym (e ∙ cond-false (list_all is_vertex vs) _ _ (subst (RunOf vs) p r))) refl
+-- the polygon of an island and its run, and the call that they make
+pub island_says : (ws vs : List (List ℕ)) (polygon : ℕ) (P : Vec Vertex Global → Call (Vec Vertex Global) → Type 0) (o : Option (Vec Vertex Global)) (r : Option (Call (Vec Vertex Global))) → whole_of (word ws 1) ≡ Some polygon → vs ≡ drop 2 ws → RunOf vs o
+    → MatchOption o (r ≡ None) (λ run. IsSomeAnd r (P run)) → ((run : Vec Vertex Global) (c : Call (Vec Vertex Global)) → P run c → with_run vec_items c ≡ Island polygon (vec_items run)) → SaysCall (call_of IslandCall ws) r
+island_says ws vs polygon P None r e q h m s = rw (m, e, ← q, h) refl
+island_says ws vs polygon P (Some run) None e q h m s = absurd m
+island_says ws vs polygon P (Some run) (Some c) e q h m s = (Island polygon vs, rw (e, ← q, h.0) refl, rw (s run c m) (record { call = refl; run = h.1 }))

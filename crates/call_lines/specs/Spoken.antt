@@ -1,20 +1,20 @@
 -- Which words of a line make which call.
-use Rattle.std.specs.Prelude.{◌≡◌, ℕ, ◌<◌, Bool, true, false, cond, ◌&&◌, List, [], ◌∷◌, length, drop, Some, None, vec_items, codes, Option, Vec, ◌==◌, slice_index_or}
+use Rattle.std.specs.Prelude.{◌≡◌, ℕ, ◌<◌, Bool, true, false, cond, ◌&&◌, List, [], ◌∷◌, length, drop, Ok, Err, Some, None, vec_items, codes, Option, Result, Vec, ◌==◌, nat_lt, option_map, slice_index_or}
 use Rattle.std.specs.Float.Parse.{is_float_text}
 use Rattle.std.specs.declared.alloc.Global.{Global}
-use Rattle.std.specs.List.{list_all}
+use Rattle.std.specs.List.{list_all, position_or_len, before_first, after_first}
 use Rattle.std.specs.Str.{bytes_eq}
 use Rattle.topology.specs.declared.vertex.Vertex.{Vertex}
 use Rattle.topology.specs.Rows.{no_vertex}
 use Rattle.line_words.specs.LineWords.{word}
 use Rattle.words.specs.Words.{whole_of, Decimal}
 use Rattle.calls.specs.declared.call.Call.{Call}
-use Rattle.calls.specs.declared.call.Call.TheVariants.{Island, Lift, Split, Divide, Dissolve, List as Listing, Counts, Ring, Side, Arc, Vertex as VertexOf}
+use Rattle.calls.specs.declared.call.Call.TheVariants.{Island, Lift, Divide, List as Listing, Counts, Ring, Side, Arc, Vertex as VertexOf}
 use Rattle.calls.specs.Outcomes.{with_run}
 use Rattle.call_lines.specs.declared.expected.Expected.{Expected}
 use Rattle.call_lines.specs.declared.expected.Expected.TheVariants.{AnyCall, IslandCall, LiftCall, ListCall, CountsCall, RingCall, SideCall, ArcCall, VertexCall}
-use Rattle.call_lines.specs.declared.line.Line.{Line}
-use Rattle.call_lines.specs.declared.line.Line.TheVariants.{Passed, Called, Unfit}
+use Rattle.call_lines.specs.declared.fault.LineFault.{LineFault}
+use Rattle.call_lines.specs.declared.fault.LineFault.TheVariants.{NoMemory, NoCall}
 
 -- which call a line with this first word has to be
 abbrev pub verb_of : List ℕ → Expected
@@ -30,13 +30,8 @@ verb_of w =
     AnyCall)))))))
 
 -- what stands before and after the first comma, where there is one
-abbrev pub further : ℕ → Option (List ℕ × List ℕ) → Option (List ℕ × List ℕ)
-further b None = None
-further b (Some (x, y)) = Some (b ∷ x, y)
-
 abbrev pub coordinates : List ℕ → Option (List ℕ × List ℕ)
-coordinates [] = None
-coordinates (b ∷ bs) = cond (b == 44) (Some ([], bs)) (further b (coordinates bs))
+coordinates w = cond (nat_lt (position_or_len (λ b. b == 44) w) (length w)) (Some (before_first (λ b. b == 44) w, after_first (λ b. b == 44) w)) None
 
 -- a vertex is written X,Y: two decimal numbers
 abbrev pub two_decimals : Option (List ℕ × List ℕ) → Bool
@@ -69,31 +64,31 @@ and_run (Some p) ws = cond (list_all is_vertex ws) (Some (p, ws)) None
 abbrev pub one_and_run : List (List ℕ) → Option (ℕ × List (List ℕ))
 one_and_run ws = and_run (whole_of (word ws 1)) (drop 2 ws)
 
--- the call with these arguments, or what the line has to be
-abbrev pub with : {A : Type 0} → (A → Call (List (List ℕ))) → Expected → Option A → Line (List (List ℕ))
-with f x None = Unfit x
-with f x (Some a) = Called (f a)
-
--- the call that words make, the first of them known
-abbrev pub call_of : Expected → List (List ℕ) → Line (List (List ℕ))
-call_of AnyCall ws = Unfit AnyCall
-call_of IslandCall ws = with (λ a. Island a.0 a.1) IslandCall (one_and_run ws)
-call_of LiftCall ws = with (λ a. Lift a) LiftCall (one ws)
-call_of ListCall ws = with (λ _. Listing) ListCall (none ws)
-call_of CountsCall ws = with (λ _. Counts) CountsCall (none ws)
-call_of RingCall ws = with (λ k. Ring k) RingCall (one ws)
-call_of SideCall ws = with (λ s. Side s) SideCall (one ws)
-call_of ArcCall ws = with (λ a. Arc a) ArcCall (one ws)
-call_of VertexCall ws = with (λ a. VertexOf a.0 a.1) VertexCall (two ws)
+-- the call that words make, the first of them known; the vertices of its run still as words
+abbrev pub call_of : Expected → List (List ℕ) → Option (Call (List (List ℕ)))
+call_of AnyCall ws = None
+call_of IslandCall ws = option_map (λ a. Island a.0 a.1) (one_and_run ws)
+call_of LiftCall ws = option_map (λ a. Lift a) (one ws)
+call_of ListCall ws = option_map (λ _. Listing) (none ws)
+call_of CountsCall ws = option_map (λ _. Counts) (none ws)
+call_of RingCall ws = option_map (λ k. Ring k) (one ws)
+call_of SideCall ws = option_map (λ s. Side s) (one ws)
+call_of ArcCall ws = option_map (λ a. Arc a) (one ws)
+call_of VertexCall ws = option_map (λ a. VertexOf a.0 a.1) (two ws)
 
 -- a line is passed over where its first word begins with #, and where it has none
 abbrev pub passes : List ℕ → Bool
 passes [] = true
 passes (b ∷ w) = b == 35
 
--- what the words of a line say, the vertices of a run still as words
-abbrev pub spoken : List (List ℕ) → Line (List (List ℕ))
-spoken ws = cond (passes (word ws 0)) Passed (call_of (verb_of (word ws 0)) ws)
+-- a call, or what the line has to be
+abbrev pub called : {C : Type 0} → Expected → Option C → Result (Option C) Expected
+called x None = Err x
+called x (Some c) = Ok (Some c)
+
+-- what the words of a line say: a call, or none where it is passed over, or what it has to be
+abbrev pub spoken : List (List ℕ) → Result (Option (Call (List (List ℕ)))) Expected
+spoken ws = cond (passes (word ws 0)) (Ok None) (called (verb_of (word ws 0)) (call_of (verb_of (word ws 0)) ws))
 
 -- a vertex is what its word writes
 abbrev pub Written : Option (List ℕ × List ℕ) → Vertex → Type 0
@@ -112,24 +107,22 @@ RunOf ws (Some vs) = (list_all is_vertex ws ≡ true) × Run ws (vec_items vs)
 
 abbrev pub run_of : {X : Type 0} → Call (List X) → List X
 run_of (Island p run) = run
-run_of (Lift a) = []
-run_of (Split a k) = []
 run_of (Divide s t run named) = run
-run_of (Dissolve a) = []
-run_of Listing = []
-run_of Counts = []
-run_of (Ring k) = []
-run_of (Side s) = []
-run_of (Arc a) = []
-run_of (VertexOf a k) = []
+run_of _ = []
 
 -- the same call, its run written out
 pub record Same (said : Call (List (List ℕ))) (c : Call (List Vertex)) : Type 0 where
   pub call : c ≡ with_run (λ _. run_of c) said
   pub run : Run (run_of said) (run_of c)
 
--- what a line is that says this, its run written out
-abbrev pub Says : Line (List (List ℕ)) → Line (Vec Vertex Global) → Type 0
-Says Passed x = x ≡ Passed
-Says (Unfit e) x = x ≡ Unfit e
-Says (Called said) x = (c : Call (Vec Vertex Global)) × (x ≡ Called c) × Same said (with_run vec_items c)
+-- a call that is said, its run written out
+abbrev pub SaysCall : Option (Call (List (List ℕ))) → Option (Call (Vec Vertex Global)) → Type 0
+SaysCall said None = said ≡ None
+SaysCall said (Some c) = (call : Call (List (List ℕ))) × (said ≡ Some call) × Same call (with_run vec_items c)
+
+-- What is read of a line that says this. Where memory ran out, nothing is told of it.
+abbrev pub Says : Result (Option (Call (List (List ℕ)))) Expected → Result (Option (Call (Vec Vertex Global))) LineFault → Type 0
+Says said (Err NoMemory) = Unit {0}
+Says said (Err (NoCall x)) = said ≡ Err x
+Says said (Ok None) = said ≡ Ok None
+Says said (Ok (Some c)) = (call : Call (List (List ℕ))) × (said ≡ Ok (Some call)) × Same call (with_run vec_items c)

@@ -1,7 +1,10 @@
+ghost use Rattle.std.specs.Prelude.{◌≡◌};
+ghost use Rattle.call_lines.specs.Spoken.{verb_of};
+
 use std::fmt;
 
 /// What a line that is no call has to be, by its first word.
-#[derive(Clone, Copy, Debug, Drop)]
+#[derive(Clone, Copy, PartialEq, Eq, Debug)]
 pub enum Expected {
     AnyCall,
     IslandCall,
@@ -12,6 +15,25 @@ pub enum Expected {
     SideCall,
     ArcCall,
     VertexCall,
+}
+
+/// The call that a line with this first word has to be.
+impl From<&str> for Expected {
+    ghost from_gives = { λ word expected. expected ≡ verb_of word.now };
+
+    fn from(word: &str) -> Expected {
+        match word {
+            "island" => Expected::IslandCall,
+            "lift" => Expected::LiftCall,
+            "list" => Expected::ListCall,
+            "counts" => Expected::CountsCall,
+            "ring" => Expected::RingCall,
+            "side" => Expected::SideCall,
+            "arc" => Expected::ArcCall,
+            "vertex" => Expected::VertexCall,
+            _ => Expected::AnyCall,
+        }
+    }
 }
 
 impl fmt::Display for Expected {

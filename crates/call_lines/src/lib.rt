@@ -2,6 +2,6 @@
 #![tactic(auto)]
 
 pub mod expected;
-pub mod line;
+pub mod fault;
 pub mod reading;
 mod vertices;

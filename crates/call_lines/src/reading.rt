@@ -1,160 +1,99 @@
-ghost use Rattle.std.specs.Prelude.{◌≡◌, true, false, length, IfOk, ◌==◌};
-ghost use Rattle.words.specs.Words.{whole_of};
+ghost use Rattle.std.specs.Prelude.{◌≡◌, IfOk};
 ghost use Rattle.call_lines.specs.declared.expected.Expected.TheVariants.{IslandCall};
-ghost use Rattle.line_words.specs.LineWords.{texts, word, words_of};
-ghost use Rattle.call_lines.specs.Spoken.{verb_of, one, two, passes, call_of, spoken, Says};
+ghost use Rattle.line_words.specs.LineWords.{texts, words_of};
+ghost use Rattle.call_lines.specs.Spoken.{none, one, two, passes, call_of, spoken, SaysCall, Says};
 
 use super::expected::Expected;
-use super::line::Line;
+use super::fault::LineFault;
 use super::vertices::read_run;
 use calls::call::Call;
 use line_words::splitting::split_words;
-use line_words::texts::{after, is, text_at};
+use line_words::texts::text_at;
 use std::alloc::{AllocError, Global};
 use topology::vertex::Vertex;
-use words::whole;
+use words::number;
 
-// Which call a line with this first word has to be.
-fn verb(text: &str) -> Expected
-    ensures { result ≡ verb_of text.now }
+// Nothing, where there is no word after the first.
+fn no_number(words: &[String]) -> Option<()>
+    ensures { result ≡ none (texts words.now) }
 {
-    if is(text, "island") {
-        Expected::IslandCall
-    } else if is(text, "lift") {
-        Expected::LiftCall
-    } else if is(text, "list") {
-        Expected::ListCall
-    } else if is(text, "counts") {
-        Expected::CountsCall
-    } else if is(text, "ring") {
-        Expected::RingCall
-    } else if is(text, "side") {
-        Expected::SideCall
-    } else if is(text, "arc") {
-        Expected::ArcCall
-    } else if is(text, "vertex") {
-        Expected::VertexCall
-    } else {
-        Expected::AnyCall
-    }
-}
-
-// The whole number at a place of the words.
-fn number(words: &[String], at: usize) -> Option<usize>
-    ensures { result ≡ whole_of (word (texts words.now) at) }
-{
-    match whole(text_at(words, at)) {
-        Some(n) => Some(n as usize),
-        None => None,
-    }
-}
-
-// Whether there are just so many words.
-fn are(words: &[String], count: usize) -> bool
-    ensures { result ≡ (length (texts words.now) == count) }
-{
-    words.len() == count
+    (words.len() == 1).then_some(())
 }
 
 // The one whole number after the first word.
 fn one_number(words: &[String]) -> Option<usize>
     ensures { result ≡ one (texts words.now) }
 {
-    if !are(words, 2) {
+    let [_, word] = words else {
         return None;
-    }
-    number(words, 1)
+    };
+    number(word.as_str())
 }
 
 // The two whole numbers after the first word.
 fn two_numbers(words: &[String]) -> Option<(usize, usize)>
     ensures { result ≡ two (texts words.now) }
 {
-    if !are(words, 3) {
-        return None;
-    }
-    let Some(m) = number(words, 1) else {
+    let [_, first, second] = words else {
         return None;
     };
-    let Some(n) = number(words, 2) else {
-        return None;
-    };
-    Some((m, n))
+    Some((number(first.as_str())?, number(second.as_str())?))
 }
 
 // Whether a line with this first word is passed over.
-fn passes(text: &str) -> bool
-    ensures { result ≡ passes text.now }
+fn passes(word: &str) -> bool
+    ensures { result ≡ passes word.now }
 {
-    let bytes = text.as_bytes();
-    bytes.len() == 0 || bytes[0] == b'#'
+    word.is_empty() || word.starts_with('#')
 }
 
 // An island: a polygon, and then the vertices of a run.
-fn read_island(heap: Global, words: &[String]) -> Result<Line<Vec<Vertex>>, AllocError>
-    ensures { IfOk result (λ x. Says (call_of IslandCall (texts words.now)) x) }
+fn read_island(heap: Global, words: &[String]) -> Result<Option<Call<Vec<Vertex>>>, AllocError>
+    ensures { IfOk result (λ o. SaysCall (call_of IslandCall (texts words.now)) o) }
 {
-    let Some(polygon) = number(words, 1) else {
-        return Ok(Line::Unfit(Expected::IslandCall));
+    let [_, polygon, run @ ..] = words else {
+        return Ok(None);
     };
-    match read_run(heap, after(words, 2))? {
-        Some(run) => Ok(Line::Called(Call::Island { polygon, run })),
-        None => Ok(Line::Unfit(Expected::IslandCall)),
-    }
+    let Some(polygon) = number(polygon.as_str()) else {
+        return Ok(None);
+    };
+    Ok(read_run(heap, run)?.map(|run| Call::Island { polygon, run }))
 }
 
-// A call of which the first word is known.
+// The call that words make, the first of them known.
 fn read_call(
     heap: Global,
     verb: Expected,
     words: &[String],
-) -> Result<Line<Vec<Vertex>>, AllocError>
-    ensures { IfOk result (λ x. Says (call_of verb (texts words.now)) x) }
+) -> Result<Option<Call<Vec<Vertex>>>, AllocError>
+    ensures { IfOk result (λ o. SaysCall (call_of verb (texts words.now)) o) }
 {
     match verb {
-        Expected::AnyCall => Ok(Line::Unfit(verb)),
+        Expected::AnyCall => Ok(None),
         Expected::IslandCall => read_island(heap, words),
-        Expected::LiftCall => match one_number(words) {
-            Some(arc) => Ok(Line::Called(Call::Lift { arc })),
-            None => Ok(Line::Unfit(verb)),
-        },
-        Expected::ListCall => if are(words, 1) {
-            Ok(Line::Called(Call::List))
-        } else {
-            Ok(Line::Unfit(verb))
-        },
-        Expected::CountsCall => if are(words, 1) {
-            Ok(Line::Called(Call::Counts))
-        } else {
-            Ok(Line::Unfit(verb))
-        },
-        Expected::RingCall => match one_number(words) {
-            Some(ring) => Ok(Line::Called(Call::Ring { ring })),
-            None => Ok(Line::Unfit(verb)),
-        },
-        Expected::SideCall => match one_number(words) {
-            Some(side) => Ok(Line::Called(Call::Side { side })),
-            None => Ok(Line::Unfit(verb)),
-        },
-        Expected::ArcCall => match one_number(words) {
-            Some(arc) => Ok(Line::Called(Call::Arc { arc })),
-            None => Ok(Line::Unfit(verb)),
-        },
-        Expected::VertexCall => match two_numbers(words) {
-            Some((arc, vertex)) => Ok(Line::Called(Call::Vertex { arc, vertex })),
-            None => Ok(Line::Unfit(verb)),
-        },
+        Expected::LiftCall => Ok(one_number(words).map(|arc| Call::Lift { arc })),
+        Expected::ListCall => Ok(no_number(words).map(|()| Call::List)),
+        Expected::CountsCall => Ok(no_number(words).map(|()| Call::Counts)),
+        Expected::RingCall => Ok(one_number(words).map(|ring| Call::Ring { ring })),
+        Expected::SideCall => Ok(one_number(words).map(|side| Call::Side { side })),
+        Expected::ArcCall => Ok(one_number(words).map(|arc| Call::Arc { arc })),
+        Expected::VertexCall => Ok(two_numbers(words).map(|(arc, vertex)| Call::Vertex {
+            arc,
+            vertex,
+        })),
     }
 }
 
-/// What a line says: a call, or nothing where it has no word or its first word begins with #, or what a line with such a first word has to be.
-pub fn read_line(heap: Global, line: &str) -> Result<Line<Vec<Vertex>>, AllocError>
-    ensures { IfOk result (λ x. Says (spoken (words_of line.now)) x) }
+/// The call that a line says, and none where it has no word or its first word begins with #. A line that is no such call has to be the one that its first word names.
+pub fn read_line(heap: Global, line: &str) -> Result<Option<Call<Vec<Vertex>>>, LineFault>
+    ensures { Says (spoken (words_of line.now)) result }
 {
     let words = split_words(heap, line)?;
     let first = text_at(words.as_slice(), 0);
     if passes(first) {
-        return Ok(Line::Passed);
+        return Ok(None);
     }
-    read_call(heap, verb(first), words.as_slice())
+    let verb = Expected::from(first);
+    let call = read_call(heap, verb, words.as_slice())?;
+    Ok(Some(call.ok_or(LineFault::NoCall(verb))?))
 }

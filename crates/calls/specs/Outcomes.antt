@@ -1,5 +1,6 @@
 -- What each call answers and makes of a map, for every map and every argument.
 use Rattle.std.specs.Prelude.{◌≡◌, ℕ, cond, List, length, drop, Ok, Err, Result, nat_lt}
+use Rattle.std.specs.Result.{result_map_both}
 use Rattle.refusal.specs.declared.Refusal.{Refusal}
 use Rattle.refusal.specs.declared.Refusal.TheVariants.{NoSuchElement}
 use Rattle.topology.specs.declared.map.Map.{Map}
@@ -16,7 +17,7 @@ use Rattle.listing.specs.Texts.{listing, text_outcome, text_leaves}
 use Rattle.calls.specs.declared.call.Call.{Call}
 use Rattle.calls.specs.declared.call.Call.TheVariants.{Island, Lift, Split, Divide, Dissolve, List as Listing, Counts, Ring, Side, Arc, Vertex as VertexOf}
 use Rattle.calls.specs.declared.answer.Answer.{Answer}
-use Rattle.calls.specs.declared.answer.Answer.TheVariants.{Done, Refused, Listed, Counts as Counted, Ring as RingIs, Side as SideIs, Arc as ArcHas, Vertex as VertexIs}
+use Rattle.calls.specs.declared.answer.Answer.TheVariants.{Done, Listed, Counts as Counted, Ring as RingIs, Side as SideIs, Arc as ArcHas, Vertex as VertexIs}
 
 -- the same call, with what f makes of its run
 abbrev pub with_run : {R S : Type 0} → (R → S) → Call R → Call S
@@ -34,45 +35,28 @@ with_run f (VertexOf a k) = VertexOf a k
 
 -- what a call leaves: its answer, the state of the map and the text
 pub record Outcome : Type 0 where
-  pub answer : Answer
+  pub answer : Result Answer Refusal
   pub state : State
   pub text : List ℕ
 
 -- an edit: the new state, or a refusal and the old one
 abbrev pub edit : State → List ℕ → Result State Refusal → Outcome
-edit m text (Ok n) = record { answer = Done; state = n; text = text }
-edit m text (Err e) = record { answer = Refused e; state = m; text = text }
+edit m text (Ok n) = record { answer = Ok Done; state = n; text = text }
+edit m text (Err e) = record { answer = Err e; state = m; text = text }
 
--- the answer to an edit
-abbrev pub told : {X : Type 0} → Result X Refusal → Answer
-told (Ok x) = Done
-told (Err e) = Refused e
+-- the answer made of what was found, or the refusal
+abbrev pub told : {X : Type 0} → (X → Answer) → Result X Refusal → Result Answer Refusal
+told f r = result_map_both f (λ e. e) r
 
 -- a question leaves the state and the text
-abbrev pub ask : State → List ℕ → Answer → Outcome
+abbrev pub ask : State → List ℕ → Result Answer Refusal → Outcome
 ask m text a = record { answer = a; state = m; text = text }
 
-abbrev pub list_answer : Result ℕ Refusal → Answer
-list_answer (Ok n) = Listed n
-list_answer (Err e) = Refused e
-
-abbrev pub ring_answer : Result (ℕ × ℕ) Refusal → Answer
-ring_answer (Ok (polygon, side)) = RingIs polygon side
-ring_answer (Err e) = Refused e
-
-abbrev pub side_answer : State → ℕ → Answer
+abbrev pub side_answer : State → ℕ → Result Answer Refusal
 side_answer m s =
     cond (nat_lt s (length m.sides))
-    (SideIs (polygon_of m.sides s) (next_of m.sides s) (node_of m.sides s))
-    (Refused NoSuchElement)
-
-abbrev pub arc_answer : Result ℕ Refusal → Answer
-arc_answer (Ok n) = ArcHas n
-arc_answer (Err e) = Refused e
-
-abbrev pub vertex_answer : Result Vertex Refusal → Answer
-vertex_answer (Ok v) = VertexIs v
-vertex_answer (Err e) = Refused e
+    (Ok (SideIs (polygon_of m.sides s) (next_of m.sides s) (node_of m.sides s)))
+    (Err NoSuchElement)
 
 abbrev pub counts : State → Answer
 counts m = Counted (arc_count m) m.nodes m.polygons (length (rings_of m))
@@ -84,28 +68,22 @@ outcome (Lift a) m text = edit m text (lift_outcome m a)
 outcome (Split a k) m text = edit m text (split_outcome m a k)
 outcome (Divide s t run named) m text = edit m text (divide_outcome m s t run named)
 outcome (Dissolve a) m text = edit m text (dissolve_outcome m a)
-outcome Listing m text = record { answer = list_answer (text_outcome (listing m) (length text)); state = m; text = text_leaves (listing m) text }
-outcome Counts m text = ask m text (counts m)
-outcome (Ring k) m text = ask m text (ring_answer (ring_at m k))
+outcome Listing m text = record { answer = told (λ n. Listed n) (text_outcome (listing m) (length text)); state = m; text = text_leaves (listing m) text }
+outcome Counts m text = ask m text (Ok (counts m))
+outcome (Ring k) m text = ask m text (told (λ p. RingIs p.0 p.1) (ring_at m k))
 outcome (Side s) m text = ask m text (side_answer m s)
-outcome (Arc a) m text = ask m text (arc_answer (vertex_count m a))
-outcome (VertexOf a k) m text = ask m text (vertex_answer (vertex_at m a k))
+outcome (Arc a) m text = ask m text (told (λ n. ArcHas n) (vertex_count m a))
+outcome (VertexOf a k) m text = ask m text (told (λ v. VertexIs v) (vertex_at m a k))
 
 -- an edit that is done leaves the free rows of both tables; a refusal or a question leaves the whole map as it was
-abbrev pub Keeps : Map → Map → Answer → Type 0
-Keeps was is Done =
+abbrev pub Keeps : Map → Map → Result Answer Refusal → Type 0
+Keeps was is (Ok Done) =
     (drop is.sides.used is.sides.rows.now ≡ drop is.sides.used was.sides.rows.now)
     × (drop is.vertices.used is.vertices.rows.now ≡ drop is.vertices.used was.vertices.rows.now)
-Keeps was is (Refused e) = is ≡ was
-Keeps was is (Listed n) = is ≡ was
-Keeps was is (Counted a n p r) = is ≡ was
-Keeps was is (RingIs p s) = is ≡ was
-Keeps was is (SideIs p t n) = is ≡ was
-Keeps was is (ArcHas n) = is ≡ was
-Keeps was is (VertexIs v) = is ≡ was
+Keeps was is _ = is ≡ was
 
 -- a call was played: it left what its outcome says, and the map lies in the same tables
-pub record Played (call : Call (List Vertex)) (was is : Map) (before after : List ℕ) (a : Answer) : Type 0 where
+pub record Played (call : Call (List Vertex)) (was is : Map) (before after : List ℕ) (a : Result Answer Refusal) : Type 0 where
   pub agrees : record { answer = a; state = state_of is; text = after } ≡ outcome call (state_of was) before
   pub keeps : Keeps was is a
   pub sides_lent : is.sides.rows.ghost_name ≡ was.sides.rows.ghost_name

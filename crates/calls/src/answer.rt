@@ -1,13 +1,10 @@
-use refusal::Refusal;
 use topology::vertex::Vertex;
 
-/// What a call answers.
-#[derive(Clone, Copy, Drop)]
+/// What a call that was taken answers.
+#[derive(Clone, Copy, PartialEq, Debug)]
 pub enum Answer {
     /// the edit is done
     Done,
-    /// nothing was changed
-    Refused(Refusal),
     /// the text begins with the listing, which has so many bytes
     Listed(usize),
     Counts {

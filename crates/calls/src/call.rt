@@ -1,7 +1,7 @@
 use topology::arc_side::ArcSide;
 
-/// A call on a map. `R` is what holds the vertices of a run: a slice where the call is played, a `Vec` where it was read.
-#[derive(Clone, Copy, Drop)]
+/// A call on a map. `R` is what lends the vertices of a run, as a slice or a `Vec` does.
+#[derive(Clone, Copy, PartialEq, Debug, Drop)]
 pub enum Call<R> {
     /// adds a closed arc with the run's vertices in a polygon
     Island {

@@ -3,5 +3,4 @@
 
 pub mod answer;
 pub mod call;
-mod lending;
 pub mod playing;

@@ -1,81 +1,63 @@
 ghost use Rattle.std.specs.Prelude.{◌≡◌};
 ghost use Rattle.topology.specs.States.{state_of};
-ghost use Rattle.calls.specs.Outcomes.{told, side_answer, with_run, Played};
+ghost use Rattle.calls.specs.Outcomes.{side_answer, with_run, Played};
 
 use super::answer::Answer;
 use super::call::Call;
 use listing::list;
 use refusal::Refusal;
+use std::convert::AsSlice;
 use topology::map::Map;
 use topology::vertex::Vertex;
 
-// The answer to an edit.
-fn tell(r: Result<(), Refusal>) -> Answer
-    ensures { result ≡ told r }
-{
-    match r {
-        Ok(_) => Answer::Done,
-        Err(e) => Answer::Refused(e),
-    }
-}
-
 // The answer to the question about a side.
-fn tell_side(map: &Map, side: usize) -> Answer
+fn side_answer(map: &Map, side: usize) -> Result<Answer, Refusal>
     ensures { result ≡ side_answer (state_of map.now) side }
 {
-    let Ok(polygon) = map.polygon(side) else {
-        return Answer::Refused(Refusal::NoSuchElement);
-    };
-    let Ok(next) = map.next(side) else {
-        return Answer::Refused(Refusal::NoSuchElement);
-    };
-    let Ok(node) = map.first_node(side) else {
-        return Answer::Refused(Refusal::NoSuchElement);
-    };
-    Answer::Side {
-        polygon,
-        next,
-        node,
-    }
+    Ok(Answer::Side {
+        polygon: map.polygon(side)?,
+        next: map.next(side)?,
+        node: map.first_node(side)?,
+    })
 }
 
 /// Plays a call on a map, and answers it. An edit that is refused and a question leave the map as it was. Only a listing writes to the text.
-pub fn play(map: &mut Map, call: Call<&[Vertex]>, text: &mut [u8]) -> Answer
-    ensures { Played (with_run (λ x. x.now) call.entry) map.old map.new text.old text.new result }
+pub fn play<R: AsSlice<Vertex>>(
+    map: &mut Map,
+    call: &Call<R>,
+    text: &mut [u8],
+) -> Result<Answer, Refusal>
+    ensures { Played (with_run R.items call.now) map.old map.new text.old text.new result }
 {
     match call {
-        Call::Island { polygon, run } => tell(map.island(polygon, run)),
-        Call::Lift { arc } => tell(map.lift(arc)),
-        Call::Split { arc, vertex } => tell(map.split(arc, vertex)),
+        Call::Island { polygon, run } => map
+            .island(*polygon, run.as_slice())
+            .map(|()| Answer::Done),
+        Call::Lift { arc } => map.lift(*arc).map(|()| Answer::Done),
+        Call::Split { arc, vertex } => map.split(*arc, *vertex).map(|()| Answer::Done),
         Call::Divide {
             first,
             second,
             run,
             named,
-        } => tell(map.divide(first, second, run, named)),
-        Call::Dissolve { arc } => tell(map.dissolve(arc)),
-        Call::List => match list(map, text) {
-            Ok(length) => Answer::Listed(length),
-            Err(e) => Answer::Refused(e),
-        },
-        Call::Counts => Answer::Counts {
+        } => map
+            .divide(*first, *second, run.as_slice(), *named)
+            .map(|()| Answer::Done),
+        Call::Dissolve { arc } => map.dissolve(*arc).map(|()| Answer::Done),
+        Call::List => list(map, text).map(Answer::Listed),
+        Call::Counts => Ok(Answer::Counts {
             arcs: map.arcs(),
             nodes: map.node_count(),
             polygons: map.polygon_count(),
             rings: map.ring_count(),
-        },
-        Call::Ring { ring } => match map.ring(ring) {
-            Ok((polygon, side)) => Answer::Ring { polygon, side },
-            Err(e) => Answer::Refused(e),
-        },
-        Call::Side { side } => tell_side(map, side),
-        Call::Arc { arc } => match map.vertex_count(arc) {
-            Ok(vertices) => Answer::Arc { vertices },
-            Err(e) => Answer::Refused(e),
-        },
-        Call::Vertex { arc, vertex } => match map.vertex(arc, vertex) {
-            Ok(v) => Answer::Vertex(v),
-            Err(e) => Answer::Refused(e),
-        },
+        }),
+        Call::Ring { ring } => map
+            .ring(*ring)
+            .map(|(polygon, side)| Answer::Ring { polygon, side }),
+        Call::Side { side } => side_answer(map, *side),
+        Call::Arc { arc } => map
+            .vertex_count(*arc)
+            .map(|vertices| Answer::Arc { vertices }),
+        Call::Vertex { arc, vertex } => map.vertex(*arc, *vertex).map(Answer::Vertex),
     }
 }

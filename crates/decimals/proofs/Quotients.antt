@@ -1,10 +1,13 @@
 -- A quotient of two whole numbers that doubles hold is rounded once.
-use Rattle.std.proofs.Common.{◌≡◌, ℕ, zero, suc, ◌+◌, ◌*◌, ◌^◌, ◌<◌, ◌≤◌, Bool, true, false, cond, eqb, ltb, ℤ, pos, negsuc, sym, refl, ap, ◌∙◌, lt_of_lt_of_le, lt_of_le_of_lt, mul_assoc, mul_comm, mul-lt-mul_of_pos_right, mul-pos, pow-suc, zero-mul, mul-one, arith, lit<, lit≤, pow_pos}
+use Rattle.std.proofs.Common.{◌≡◌, ℕ, zero, suc, ◌+◌, ◌*◌, ◌^◌, ◌<◌, ◌≤◌, Bool, true, false, cond, eqb, ltb, List, Some, ℤ, pos, negsuc, sym, refl, ap, ◌∙◌, lt_of_lt_of_le, lt_of_le_of_lt, mul_assoc, mul_comm, mul-lt-mul_of_pos_right, mul-pos, pow-suc, zero-mul, mul-one, arith, lit<, lit≤, pow_pos}
 use native.Mathlib.Nat.{pow-le-pow_right}
 use lib.Ieee.{Float, nan, inf, fin, Format, binary64, prec, emax, low, up, down, odd, units, round, of_int, div, neg}
 use lib.Ieee.Exact.{HasValue, round_exact}
 use lib.Ieee.Scale.{round_same}
+use Rattle.std.specs.Float.Parse.{without_sign}
+use Rattle.std.specs.Str.Parse.{starts_with_minus}
 use Rattle.std.proofs.lemmas.Bool.{ne_eqb}
+use Rattle.decimals.specs.Plain.{plain, nearest_double, plain_of}
 
 down_pos : (e : ℤ) → 0 < down e
 down_pos (pos k) = omega arith
@@ -53,7 +56,7 @@ neg_units f q k = at (ltb (q * 2 ^ k) (2 ^ (low f + suc (emax f))))
     at true = neg_odd (suc (prec f)) q k (low f)
     at false = refl
 
-pub neg_round : (f : Format) (a b : ℕ) → neg (round f false a b) ≡ round f true a b
+neg_round : (f : Format) (a b : ℕ) → neg (round f false a b) ≡ round f true a b
 unfolding round
 neg_round f a b = neg_units f _ _
 
@@ -63,3 +66,8 @@ ten_low k h = lt_of_le_of_lt (pow-le-pow_right {n = 10} (omega arith) h) (lit< t
 pub ten_pos : (k : ℕ) → 0 < 10 ^ k
 ten_pos zero = lit< tt
 ten_pos (suc k) = rw pow-suc (omega (arith, ten_pos k))
+
+-- a quotient with the other sign
+pub negated : (bs u : List ℕ) (n p : ℕ) (x : Float) → u ≡ without_sign bs → Some (n, p) ≡ plain u → x ≡ round binary64 false n (10 ^ p) → true ≡ starts_with_minus bs → Some (neg x) ≡ plain_of bs
+negated bs u n p x e d q s =
+    ap (λ (y : Float). Some y) (ap neg q ∙ neg_round binary64 n (10 ^ p)) ∙ ap (nearest_double true) (d ∙ ap plain e) ∙ ap (λ b. nearest_double b (plain (without_sign bs))) s

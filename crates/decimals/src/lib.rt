@@ -13,113 +13,58 @@ use std::num::nearest_u64_to_f64;
 const LIMIT: u64 = 0x20_0000_0000_0000;
 
 // The number that digits write after those of n, where it stays below the limit.
-fn digits_after(n: u64, digits: &[u8]) -> Option<u64>
+fn digits_after(n: u64, digits: &str) -> Option<u64>
     requires { n < 2 ^ 53 }
     ensures value { result ≡ digits_after n digits.now }
     ensures below { IfSome result (λ m. m < 2 ^ 53) }
 {
     let mut m = n;
-    for i in 0..digits.len() {
-        let c = digits[i];
+    for c in digits.as_bytes() {
         if !c.is_ascii_digit() {
             return None;
         }
-        let next = m * 10 + (c - b'0') as u64;
-        if next >= LIMIT {
+        m = m * 10 + u64::from(*c - b'0');
+        if m >= LIMIT {
             return None;
         }
-        m = next;
     }
     Some(m)
 }
 
-// Where the first point stands, or the length.
-fn point(text: &[u8]) -> usize
-    ensures place { result ≡ length (before_point text.now) }
-    ensures within { result ≤ length text.now }
-{
-    for i in 0..text.len() {
-        if text[i] == b'.' {
-            return i;
-        }
-    }
-    text.len()
-}
-
-// The bytes after the first n.
-fn after(text: &[u8], n: usize) -> &[u8]
-    ensures { result.now ≡ drop n text.now }
-{
-    if n < text.len() { &text[n..] } else { &[] }
-}
-
-// The first byte, and 0 where there is none.
-fn first(text: &[u8]) -> u8
-    ensures { result ≡ slice_index text.now 0 }
-{
-    if text.len() == 0 { 0 } else { text[0] }
-}
-
-// The bytes after a sign.
-fn after_sign(text: &[u8]) -> &[u8]
+// The text after a sign.
+fn unsigned(text: &str) -> &str
     ensures { result.now ≡ without_sign text.now }
 {
-    let c = first(text);
-    if (c == b'+') | (c == b'-') {
-        return after(text, 1);
-    }
-    text
+    text.strip_prefix(['+', '-']).unwrap_or(text)
 }
 
-// The bytes before the first point.
-fn whole_part(text: &[u8]) -> &[u8]
-    ensures { result.now ≡ before_point text.now }
+// The text before the first point, and the text after it.
+fn parts(text: &str) -> (&str, &str)
+    ensures before { result.0.now ≡ before_point text.now }
+    ensures after { result.1.now ≡ after_point text.now }
 {
-    let k = point(text);
-    &text[..k]
-}
-
-// The bytes after the first point.
-fn fraction(text: &[u8]) -> &[u8]
-    ensures { result.now ≡ after_point text.now }
-{
-    let k = point(text);
-    after(text, k + 1)
-}
-
-// The number that the digits of both write, one after the other.
-fn joined(whole: &[u8], fraction: &[u8]) -> Option<u64>
-    ensures value { result ≡ digits_after 0 (whole.now ++ fraction.now) }
-    ensures below { IfSome result (λ m. m < 2 ^ 53) }
-{
-    match digits_after(0, whole) {
-        Some(n) => digits_after(n, fraction),
-        None => None,
-    }
+    text.split_once('.').unwrap_or((text, ""))
 }
 
 // Whether there are some digits, and not too many after the point.
 fn is_short(whole: usize, places: usize) -> bool
     ensures { result ≡ is_short whole places }
 {
-    ((whole > 0) | (places > 0)) & (places <= 15)
+    (whole > 0 || places > 0) && places <= 15
 }
 
 // Digits with at most one point: the number that they write without it, and how many stand after it.
-fn plain_parts(text: &[u8]) -> Option<(u64, usize)>
+fn plain_parts(text: &str) -> Option<(u64, usize)>
     ensures parts { result ≡ plain text.now }
     ensures few { Few result }
 {
-    let whole = whole_part(text);
-    let rest = fraction(text);
-    let places = rest.len();
-    if !is_short(whole.len(), places) {
+    let (whole, fraction) = parts(text);
+    if !is_short(whole.len(), fraction.len()) {
         return None;
     }
-    match joined(whole, rest) {
-        Some(n) => Some((n, places)),
-        None => None,
-    }
+    let first = digits_after(0, whole)?;
+    let n = digits_after(first, fraction)?;
+    Some((n, fraction.len()))
 }
 
 // The double nearest to n / 10 ^ places: both are doubles, and the quotient is rounded once.
@@ -130,24 +75,12 @@ fn quotient(n: u64, places: usize) -> f64
     nearest_u64_to_f64(n) / nearest_u64_to_f64(10u64.pow(places as u32))
 }
 
-fn signed(negative: bool, parts: Option<(u64, usize)>) -> Option<f64>
-    requires { Few parts }
-    ensures { result ≡ nearest_double negative parts }
-{
-    match parts {
-        Some((n, places)) => {
-            let x = quotient(n, places);
-            if negative { Some(-x) } else { Some(x) }
-        }
-        None => None,
-    }
-}
-
 /// The double nearest to the number that a plain text writes: a sign or none, digits with at most one point, at most 15 of them after it,
 /// and without the point a number below 2 ^ 53. Of any other text, none.
 pub fn plain_decimal(text: &str) -> Option<f64>
     ensures { result ≡ plain_of text.now }
 {
-    let bytes = text.as_bytes();
-    signed(first(bytes) == b'-', plain_parts(after_sign(bytes)))
+    let (n, places) = plain_parts(unsigned(text))?;
+    let x = quotient(n, places);
+    Some(if text.starts_with('-') { -x } else { x })
 }

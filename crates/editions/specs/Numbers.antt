@@ -3,6 +3,7 @@ use Rattle.std.specs.Prelude.{◌≡◌, ℕ, zero, suc, ◌+◌, ◌*◌, ◌/�
 use Rattle.refusal.specs.declared.Refusal.{Refusal}
 use Rattle.refusal.specs.declared.Refusal.TheVariants.{PastEnd, DoesNotFit}
 use Rattle.media.specs.Runs.{run, overwrite}
+pub use Rattle.media.specs.Posts.{Field}
 
 -- the number that bytes stand for
 abbrev pub little : List ℕ → ℕ
@@ -17,11 +18,6 @@ digits (suc w) n = n % 256 ∷ digits w (n / 256)
 -- the number of w bytes that stands at a place
 abbrev pub number_at : ℕ → List ℕ → ℕ → ℕ
 number_at w bs at = little (run bs at w)
-
--- A field of n bytes at a place, which means v, is read: refused exactly when it passes the end.
-abbrev pub Field : {X : Type 0} → List ℕ → ℕ → ℕ → X → Result X Refusal → Type 0
-Field bs at n v (Ok x) = (at + n ≤ length bs) × (x ≡ v)
-Field bs at n v (Err e) = (length bs < at + n) × (e ≡ PastEnd)
 
 -- A number is stored in w bytes at a place: was and is are the bytes before and after. What is stored is read back.
 abbrev pub Stored : {X : Type 0} → ℕ → List ℕ → ℕ → ℕ → List ℕ → Result X Refusal → Type 0

@@ -13,14 +13,11 @@ use pages::pages::Pages;
 use refusal::Refusal;
 use std::io;
 
-// A line that tells whether a call was taken, or the number of its refusal.
-fn tell(rt: &HostRuntime, what: &str, answer: Result<(), Refusal>) -> io::Result<()> {
+// A line that tells whether a call was taken, or its refusal.
+fn tell<T: Drop>(rt: &HostRuntime, what: &str, answer: Result<T, Refusal>) -> io::Result<()> {
     match answer {
         Ok(_) => println!(rt; "{what}: taken"),
-        Err(e) => {
-            let number = e.number();
-            println!(rt; "{what}: refused {number}")
-        }
+        Err(refusal) => println!(rt; "{what}: {refusal}"),
     }
 }
 
@@ -33,29 +30,22 @@ fn show(rt: &HostRuntime, what: &str, bytes: &[u8]) -> io::Result<()> {
     println!(rt; "")
 }
 
-// Whether the numbers make a page list.
-fn listed(numbers: &[u8]) -> Result<(), Refusal> {
-    PageList::new(numbers)?;
-    Ok(())
-}
-
 // Whether the bounds make a box.
-fn boxed(minx: f64, maxx: f64, miny: f64, maxy: f64) -> Result<(), Refusal> {
+fn boxed(minx: f64, maxx: f64, miny: f64, maxy: f64) -> Result<Bounds, Refusal> {
     Bounds::new(Edges {
         minx,
         maxx,
         miny,
         maxy,
-    })?;
-    Ok(())
+    })
 }
 
 fn page_lists(rt: &HostRuntime) -> io::Result<()> {
-    tell(rt, "page list 127", listed(&[127]))?;
-    tell(rt, "page list 128", listed(&[128]))?;
-    tell(rt, "page list 5 5", listed(&[5, 5]))?;
-    tell(rt, "page list 5 5 128", listed(&[5, 5, 128]))?;
-    tell(rt, "page list of none", listed(&[]))
+    tell(rt, "page list 127", PageList::new(&[127]))?;
+    tell(rt, "page list 128", PageList::new(&[128]))?;
+    tell(rt, "page list 5 5", PageList::new(&[5, 5]))?;
+    tell(rt, "page list 5 5 128", PageList::new(&[5, 5, 128]))?;
+    tell(rt, "page list of none", PageList::new(&[]))
 }
 
 // Four bytes written across the border of two pages, and read again.

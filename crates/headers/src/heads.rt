@@ -14,19 +14,14 @@ use refusal::Refusal;
 fn bytes_needed(version: Option<Version>) -> usize
     ensures { result ≡ header_bytes version }
 {
-    match version {
-        Some(v) => v.sizes().header,
-        None => 48,
-    }
+    version.map_or(48, |v| v.sizes().header)
 }
 
 // The kind that a header says, where it is the one wanted.
 fn agreed(wanted: Option<Kind>, said: Option<Kind>) -> Option<Kind>
     ensures { result ≡ kind_agreed wanted said }
 {
-    let w = wanted?;
-    let k = said?;
-    if w.is(k) { Some(k) } else { None }
+    said.filter(|k| wanted == Some(*k))
 }
 
 // The fields of a header that is whole.
@@ -50,22 +45,19 @@ fn fields(file: &[u8], kind: Kind, version: Version) -> Result<Header, Refusal>
 impl Header {
     /// The header of a file, of the kind wanted; with none wanted, no file fits.
     /// 1 when it passes the end, then 4 for another kind, then 5 for a version that is neither 1.1 nor 2.0.
+    #[tactic(auto, using(refusal::proofs::Options::ok_of_ok_or))]
     pub fn read(file: &[u8], wanted: Option<Kind>) -> Result<Header, Refusal>
         ensures { result ≡ header_outcome file.now wanted }
     {
         let [k0, k1, k2, v0, v1, v2, v3, _rest @ ..] = file else {
             return Err(Refusal::PastEnd);
         };
-        let said = Version::of_letters(*v0, *v1, *v2, *v3);
-        if file.len() < bytes_needed(said) {
+        let said = Version::try_from([*v0, *v1, *v2, *v3]);
+        if file.len() < bytes_needed(said.ok()) {
             return Err(Refusal::PastEnd);
         }
-        let Some(kind) = agreed(wanted, Kind::of_letters(*k0, *k1, *k2)) else {
-            return Err(Refusal::OtherKind);
-        };
-        let Some(version) = said else {
-            return Err(Refusal::OtherVersion);
-        };
-        fields(file, kind, version)
+        let named = Kind::try_from([*k0, *k1, *k2]);
+        let kind = agreed(wanted, named.ok()).ok_or(Refusal::OtherKind)?;
+        fields(file, kind, said?)
     }
 }

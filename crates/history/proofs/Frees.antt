@@ -1,14 +1,15 @@
 -- Rows that were never in use stay as they were.
-use Rattle.std.proofs.Common.{◌≡◌, ℕ, ◌+◌, ◌-◌, ◌<◌, ◌≤◌, cond, leb, List, [], ◌∷◌, length, get_or, drop, sym, refl, ap, ◌∙◌, subst, arith}
+use Rattle.std.proofs.Common.{◌≡◌, ℕ, ◌+◌, ◌-◌, ◌<◌, ◌≤◌, cond, leb, List, [], ◌∷◌, length, get_or, drop, Ok, Result, sym, refl, ap, ◌∙◌, subst, arith}
 use Rattle.std.proofs.lemmas.Bool.Decides.{nat_tests}
 use Rattle.std.proofs.lemmas.List.{at_drop_more, drop-drop}
+use Rattle.refusal.specs.declared.Refusal.{Refusal}
 use Rattle.topology.specs.declared.map.Map.{Map}
 use Rattle.topology.specs.declared.vertex.Vertex.{Vertex}
 use Rattle.topology.specs.States.{State, state_of}
 use Rattle.topology.proofs.InUse.{long}
 use Rattle.calls.specs.declared.call.Call.{Call}
 use Rattle.calls.specs.declared.answer.Answer.{Answer}
-use Rattle.calls.specs.declared.answer.Answer.TheVariants.{Done, Refused, Listed, Counts as Counted, Ring as RingIs, Side as SideIs, Arc as ArcHas, Vertex as VertexIs}
+use Rattle.calls.specs.declared.answer.Answer.TheVariants.{Done}
 use Rattle.calls.specs.Outcomes.{Keeps}
 use Rattle.history.specs.Runs.{World, after, most, sides_used, vertices_used, FreeRows}
 
@@ -40,21 +41,15 @@ same_free : (was is : Map) (i j : ℕ) → is ≡ was → FreeRows i j was is
 same_free was is i j e = record { free_sides = λ k l. ap (λ (m : Map). drop k m.sides.rows.now) e; free_vertices = λ k l. ap (λ (m : Map). drop k m.vertices.rows.now) e }
 
 -- one call leaves the rows past those that it leaves in use
-call_free : (was is : Map) (a : Answer) → Keeps was is a → FreeRows (sides_used (state_of is)) (vertices_used (state_of is)) was is
-call_free was is Done k =
-    let s = long is.sides.rows.now is.sides.used is.sides_fit in
-    let v = long is.vertices.rows.now is.vertices.used is.vertices_fit in
+call_free : (was is : Map) (a : Result Answer Refusal) → Keeps was is a → FreeRows (sides_used (state_of is)) (vertices_used (state_of is)) was is
+call_free was is (Ok Done) k =
+    let s = long is.sides.rows.now is.sides.used is.sides.fits in
+    let v = long is.vertices.rows.now is.vertices.used is.vertices.fits in
     record {
       free_sides = λ j l. further is.sides.rows.now was.sides.rows.now is.sides.used j (omega (arith, s, l)) k.0;
       free_vertices = λ j l. further is.vertices.rows.now was.vertices.rows.now is.vertices.used j (omega (arith, v, l)) k.1;
     }
-call_free was is (Refused e) k = same_free was is _ _ k
-call_free was is (Listed n) k = same_free was is _ _ k
-call_free was is (Counted a n p r) k = same_free was is _ _ k
-call_free was is (RingIs p s) k = same_free was is _ _ k
-call_free was is (SideIs p t n) k = same_free was is _ _ k
-call_free was is (ArcHas n) k = same_free was is _ _ k
-call_free was is (VertexIs v) k = same_free was is _ _ k
+call_free was is _ k = same_free was is _ _ k
 
 -- where a loop over calls stands: what is left to do has no more rows in use than the whole, and rows past the most of the whole are free
 pub record Frees (v w : World) (cs : List (Call (List Vertex))) (i : ℕ) (was is : Map) : Type 0 where
@@ -65,14 +60,15 @@ pub record Frees (v w : World) (cs : List (Call (List Vertex))) (i : ℕ) (was i
 pub frees_none : (v : World) (cs : List (Call (List Vertex))) (was : Map) → Frees v v cs 0 was was
 frees_none v cs was = record { few_sides = omega arith; few_vertices = omega arith; free = same_free was was _ _ refl }
 
-pub frees_turn : (v w w' : World) (cs : List (Call (List Vertex))) (i : ℕ) (d : Call (List Vertex)) (was mid is : Map) (a : Answer) → i < length cs → w' ≡ after w (get_or cs i d) → w'.state ≡ state_of is →
+pub frees_turn : (v w w' : World) (cs : List (Call (List Vertex))) (i : ℕ) (d : Call (List Vertex)) (was mid is : Map) (a : Result Answer Refusal) → i < length cs → d ≡ get_or cs i d → w' ≡ after w d → w'.state ≡ state_of is →
     Keeps mid is a → Frees v w cs i was mid → Frees v w' cs (i + 1) was is
-frees_turn v w w' cs i d was mid is a h e q k f =
+frees_turn v w w' cs i d was mid is a h here e q k f =
     let c = call_free mid is a k in
+    let t = e ∙ ap (after w) here in
     let ns = most_next sides_used w cs i d h in
     let nv = most_next vertices_used w cs i d h in
-    let es = ap (λ (u : World). most sides_used u (drop (i + 1) cs)) e in
-    let ev = ap (λ (u : World). most vertices_used u (drop (i + 1) cs)) e in
+    let es = ap (λ (u : World). most sides_used u (drop (i + 1) cs)) t in
+    let ev = ap (λ (u : World). most vertices_used u (drop (i + 1) cs)) t in
     let us = most_first sides_used w' (drop (i + 1) cs) in
     let uv = most_first vertices_used w' (drop (i + 1) cs) in
     let qs = ap sides_used q in

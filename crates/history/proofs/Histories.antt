@@ -20,7 +20,7 @@ use Rattle.topology.specs.Dissolves.{dissolve_outcome}
 use Rattle.topology.proofs.Settled.{Kept, island_kept, lift_kept}
 use Rattle.topology.proofs.SettledSplits.{split_kept, divide_kept, dissolve_kept}
 use Rattle.calls.specs.declared.call.Call.{Call}
-use Rattle.calls.specs.declared.call.Call.TheVariants.{Island, Lift, Split, Divide, Dissolve, List as Listing, Counts, Ring, Side, Arc, Vertex as VertexOf}
+use Rattle.calls.specs.declared.call.Call.TheVariants.{Island, Lift, Split, Divide, Dissolve}
 use Rattle.calls.specs.Outcomes.{edit}
 use Rattle.history.specs.Runs.{World, after, replayed}
 use Rattle.history.specs.Law.{InOrder, islands_by, lifts_by, islands, lifts, HistoryLaw}
@@ -73,12 +73,7 @@ one_call w (Divide i j run named) s =
 one_call w (Dissolve a) s =
     let r = took w 0 0 (dissolve_outcome w.state a) (dissolve_kept w.state a s) in
     (r.0, omega (arith, r.1))
-one_call w Listing s = still w w.text s
-one_call w Counts s = still w w.text s
-one_call w (Ring k) s = still w w.text s
-one_call w (Side k) s = still w w.text s
-one_call w (Arc a) s = still w w.text s
-one_call w (VertexOf a k) s = still w w.text s
+one_call w _ s = still w w.text s
 
 all_calls : (w : World) (cs : List (Call (List Vertex))) → Stands w.state → Steps w (replayed w cs) (islands w cs) (lifts w cs)
 all_calls w [] s = (s, omega arith)

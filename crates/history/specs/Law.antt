@@ -10,7 +10,7 @@ use Rattle.topology.specs.Kept.{Stands, taken, Moves}
 use Rattle.topology.specs.Islands.{island_outcome}
 use Rattle.topology.specs.Lifts.{lift_outcome}
 use Rattle.calls.specs.declared.call.Call.{Call}
-use Rattle.calls.specs.declared.call.Call.TheVariants.{Island, Lift, Split, Divide, Dissolve, List as Listing, Counts, Ring, Side, Arc, Vertex as VertexOf}
+use Rattle.calls.specs.declared.call.Call.TheVariants.{Island, Lift}
 use Rattle.history.specs.Runs.{World, after, replayed}
 
 pub record InOrder (m : State) : Type 0 where
@@ -26,29 +26,11 @@ pub record InOrder (m : State) : Type 0 where
 -- 1 where the call is an island that is taken; likewise a lift
 abbrev pub islands_by : World → Call (List Vertex) → ℕ
 islands_by w (Island p run) = taken (island_outcome w.state p run)
-islands_by w (Lift a) = 0
-islands_by w (Split a k) = 0
-islands_by w (Divide s t run named) = 0
-islands_by w (Dissolve a) = 0
-islands_by w Listing = 0
-islands_by w Counts = 0
-islands_by w (Ring k) = 0
-islands_by w (Side s) = 0
-islands_by w (Arc a) = 0
-islands_by w (VertexOf a k) = 0
+islands_by w _ = 0
 
 abbrev pub lifts_by : World → Call (List Vertex) → ℕ
-lifts_by w (Island p run) = 0
 lifts_by w (Lift a) = taken (lift_outcome w.state a)
-lifts_by w (Split a k) = 0
-lifts_by w (Divide s t run named) = 0
-lifts_by w (Dissolve a) = 0
-lifts_by w Listing = 0
-lifts_by w Counts = 0
-lifts_by w (Ring k) = 0
-lifts_by w (Side s) = 0
-lifts_by w (Arc a) = 0
-lifts_by w (VertexOf a k) = 0
+lifts_by w _ = 0
 
 -- how many islands and lifts of a list of calls are taken
 abbrev pub islands : World → List (Call (List Vertex)) → ℕ

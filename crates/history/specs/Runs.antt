@@ -14,12 +14,16 @@ pub record World : Type 0 where
   pub state : State
   pub text : List ℕ
 
+-- a map, and the text beside it
+abbrev pub world : Map → List ℕ → World
+world m text = record { state = state_of m; text = text }
+
 -- what a call leaves
 abbrev pub after : World → Call (List Vertex) → World
 after w c = record { state = (outcome c w.state w.text).state; text = (outcome c w.state w.text).text }
 
 -- what it answers
-abbrev pub reply : World → Call (List Vertex) → Answer
+abbrev pub reply : World → Call (List Vertex) → Result Answer Refusal
 reply w c = (outcome c w.state w.text).answer
 
 -- what a list of calls leaves, each finding what the one before it left
@@ -28,7 +32,7 @@ replayed w [] = w
 replayed w (c ∷ cs) = replayed (after w c) cs
 
 -- the answers to them
-abbrev pub answers : World → List (Call (List Vertex)) → List Answer
+abbrev pub answers : World → List (Call (List Vertex)) → List (Result Answer Refusal)
 answers w [] = []
 answers w (c ∷ cs) = reply w c ∷ answers (after w c) cs
 
@@ -49,16 +53,16 @@ pub record FreeRows (most_sides most_vertices : ℕ) (was is : Map) : Type 0 whe
   pub free_vertices : (k : ℕ) → most_vertices ≤ k → drop k is.vertices.rows.now ≡ drop k was.vertices.rows.now
 
 -- the calls were played, or there was no room for the answers and all is as it was
-abbrev pub Runs : List (Call (List Vertex)) → Map → Map → List ℕ → List ℕ → List Answer → List Answer → Result (Unit {0}) Refusal → Type 0
+abbrev pub Runs : List (Call (List Vertex)) → Map → Map → List ℕ → List ℕ → List (Result Answer Refusal) → List (Result Answer Refusal) → Result (Unit {0}) Refusal → Type 0
 Runs calls was is before text told tell (Ok x) =
     (length calls ≤ length told)
-    × (record { state = state_of is; text = text } ≡ replayed (record { state = state_of was; text = before }) calls)
-    × (tell ≡ answers (record { state = state_of was; text = before }) calls ++ drop (length calls) told)
-    × FreeRows (most sides_used (record { state = state_of was; text = before }) calls) (most vertices_used (record { state = state_of was; text = before }) calls) was is
+    × (world is text ≡ replayed (world was before) calls)
+    × (tell ≡ answers (world was before) calls ++ drop (length calls) told)
+    × FreeRows (most sides_used (world was before) calls) (most vertices_used (world was before) calls) was is
 Runs calls was is before text told tell (Err e) = (e ≡ DoesNotFit) × (length told < length calls) × (is ≡ was) × (text ≡ before) × (tell ≡ told)
 
 -- .. and the map lies in the same tables
-pub record Replayed (calls : List (Call (List Vertex))) (was is : Map) (before text : List ℕ) (told tell : List Answer) (r : Result (Unit {0}) Refusal) : Type 0 where
+pub record Replayed (calls : List (Call (List Vertex))) (was is : Map) (before text : List ℕ) (told tell : List (Result Answer Refusal)) (r : Result (Unit {0}) Refusal) : Type 0 where
   pub runs : Runs calls was is before text told tell r
   pub sides_lent : is.sides.rows.ghost_name ≡ was.sides.rows.ghost_name
   pub vertices_lent : is.vertices.rows.ghost_name ≡ was.vertices.rows.ghost_name

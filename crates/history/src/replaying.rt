@@ -8,26 +8,28 @@ use calls::answer::Answer;
 use calls::call::Call;
 use calls::playing::play;
 use refusal::Refusal;
+use std::convert::AsSlice;
 use topology::map::Map;
 use topology::vertex::Vertex;
 
 /// Plays calls on a map, one after the other, each finding what the one before it left, and tells the answer to each.
 /// 31 when there is no room for all answers; then nothing is played.
-pub fn replay(
+pub fn replay<R: AsSlice<Vertex>>(
     map: &mut Map,
-    calls: &[Call<&[Vertex]>],
+    calls: &[Call<R>],
     text: &mut [u8],
-    told: &mut [Answer],
+    told: &mut [Result<Answer, Refusal>],
 ) -> Result<(), Refusal>
-    ensures replayed { Replayed (each (with_run (λ x. x.now)) calls.now) map.old map.new text.old text.new told.old told.new result }
-    ensures lasts { OnOk result (Lasts (each (with_run (λ x. x.now)) calls.now) (state_of map.old) text.old (state_of map.new)) }
+    ensures replayed { Replayed (each (with_run R.items) calls.now) map.old map.new text.old text.new told.old told.new result }
+    ensures lasts { OnOk result (Lasts (each (with_run R.items) calls.now) (state_of map.old) text.old (state_of map.new)) }
     ensures law { HistoryLaw }
 {
     if told.len() < calls.len() {
         return Err(Refusal::DoesNotFit);
     }
-    for i in 0..calls.len() {
-        told[i] = play(map, calls[i], text);
+    // Stays: told is written by its index, since a zip with told.iter_mut() leaves no fact about what was written.
+    for (i, call) in calls.iter().enumerate() {
+        told[i] = play(map, call, text);
     }
     Ok(())
 }

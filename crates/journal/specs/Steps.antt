@@ -1,52 +1,49 @@
 -- What a line of a journal comes to.
-use Rattle.std.specs.Prelude.{◌≡◌, ℕ, List, length, replicate, vec_items, Vec}
+use Rattle.std.specs.Prelude.{◌≡◌, ℕ, List, length, replicate, Ok, Err, Some, None, Option, Result, vec_items, Vec, IsUtf8}
 use Rattle.std.specs.declared.alloc.Global.{Global}
 use Rattle.topology.specs.declared.map.Map.{Map}
 use Rattle.topology.specs.declared.vertex.Vertex.{Vertex}
 use Rattle.topology.specs.States.{State, state_of}
 use Rattle.listing.specs.Texts.{listing}
+use Rattle.refusal.specs.declared.Refusal.{Refusal}
 use Rattle.calls.specs.declared.answer.Answer.{Answer}
 use Rattle.calls.specs.declared.call.Call.{Call}
-use Rattle.calls.specs.declared.call.Call.TheVariants.{Island, Lift, Split, Divide, Dissolve, List as Listing, Counts, Ring, Side, Arc, Vertex as VertexOf}
+use Rattle.calls.specs.declared.call.Call.TheVariants.{List as Listing}
 use Rattle.calls.specs.Outcomes.{Played}
-use Rattle.call_lines.specs.declared.line.Line.{Line}
-use Rattle.call_lines.specs.declared.line.Line.TheVariants.{Passed, Called, Unfit}
-use Rattle.call_lines.specs.Spoken.{Same}
+use Rattle.line_words.specs.LineWords.{words_of}
+use Rattle.call_lines.specs.declared.expected.Expected.{Expected}
+use Rattle.call_lines.specs.Spoken.{spoken, Same}
 use Rattle.answer_lines.specs.AnswerTexts.{AnswerText}
-use Rattle.journal.specs.declared.step.Step.{Step}
-use Rattle.journal.specs.declared.step.Step.TheVariants.{Passed as PassedOver, Answered, Unfit as NoCall}
+use Rattle.journal.specs.declared.fault.PlayFault.{PlayFault}
+use Rattle.journal.specs.declared.fault.PlayFault.TheVariants.{NotUtf8, NoCall, NoText}
 
 -- how much text a call wants: the listing's length, or none
 abbrev pub room : {R : Type 0} → Call R → State → ℕ
-room (Island p run) m = 0
-room (Lift a) m = 0
-room (Split a k) m = 0
-room (Divide s t run named) m = 0
-room (Dissolve a) m = 0
 room Listing m = length (listing m)
-room Counts m = 0
-room (Ring k) m = 0
-room (Side s) m = 0
-room (Arc a) m = 0
-room (VertexOf a k) m = 0
+room _ m = 0
 
 -- a call was played beside that much text, and bs is the text of its answer
 pub record Done (c : Call (List Vertex)) (was is : Map) (bs : List ℕ) : Type 0 where
-  pub answer : Answer
+  pub answer : Result Answer Refusal
   pub left : List ℕ
   pub played : Played c was is (replicate (room c (state_of was)) 0) left answer
   pub text : AnswerText answer left bs
 
--- the call that words say was played, and answered by a text
-pub record Answers (said : Call (List (List ℕ))) (was is : Map) (s : Step) : Type 0 where
+-- the call that words say was played, and bs is the text of its answer
+pub record Answers (said : Call (List (List ℕ))) (was is : Map) (bs : List ℕ) : Type 0 where
   pub call : Call (List Vertex)
-  pub line : Vec ℕ Global
-  pub step : s ≡ Answered line
   pub same : Same said call
-  pub done : Done call was is (vec_items line)
+  pub done : Done call was is bs
 
--- What a line comes to, by what its words say: it is passed over, or its call is played and answered, or it is no call. Only a call changes the map.
-abbrev pub Stepped : Line (List (List ℕ)) → Map → Map → Step → Type 0
-Stepped Passed was is s = (s ≡ PassedOver) × (is ≡ was)
-Stepped (Unfit x) was is s = (s ≡ NoCall x) × (is ≡ was)
-Stepped (Called said) was is s = Answers said was is s
+-- What a line comes to, by what its words say: it is passed over, or its call is played and answered, or it is no call. Only a call changes the map. Where an answer got no text, nothing is told of it.
+abbrev pub Stepped : Result (Option (Call (List (List ℕ)))) Expected → Map → Map → Result (Option (Vec ℕ Global)) PlayFault → Type 0
+Stepped said was is (Ok None) = (said ≡ Ok None) × (is ≡ was)
+Stepped said was is (Ok (Some line)) = (call : Call (List (List ℕ))) × (said ≡ Ok (Some call)) × Answers call was is (vec_items line)
+Stepped said was is (Err (NoCall x)) = (said ≡ Err x) × (is ≡ was)
+Stepped said was is (Err (NoText e)) = Unit {0}
+Stepped said was is (Err NotUtf8) = ⊥
+
+-- .. of a line that may be no text
+abbrev pub SteppedBytes : List ℕ → Map → Map → Result (Option (Vec ℕ Global)) PlayFault → Type 0
+SteppedBytes line was is (Err NotUtf8) = ¬ (IsUtf8 line) × (is ≡ was)
+SteppedBytes line was is r = IsUtf8 line × Stepped (spoken (words_of line)) was is r

@@ -5,12 +5,7 @@ ghost use Rattle.journal.specs.Ends.{without, line_of};
 fn without(bytes: &[u8], end: u8) -> &[u8]
     ensures { result.now ≡ without end bytes.now }
 {
-    let n = bytes.len();
-    if n > 0 && bytes[n - 1] == end {
-        &bytes[..n - 1]
-    } else {
-        bytes
-    }
+    bytes.strip_suffix(&[end]).unwrap_or(bytes)
 }
 
 /// A line without its end: a line feed, a carriage return and a line feed, or none.

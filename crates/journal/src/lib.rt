@@ -2,5 +2,5 @@
 #![tactic(auto)]
 
 pub mod ends;
+pub mod fault;
 pub mod playing;
-pub mod step;

@@ -1,83 +1,62 @@
 ghost use Rattle.std.specs.Prelude.{◌≡◌};
-ghost use Rattle.words.specs.Words.{whole_of};
 ghost use Rattle.line_words.specs.LineWords.{texts};
 ghost use Rattle.journal_settings.specs.Settings.{hand_of, once, option, options, nothing, settings};
 
 use super::fault::Fault;
 use super::settings::{Given, Settings};
-use line_words::texts::{after, is, text_at};
+use line_words::texts::text_at;
 use topology::hand::Hand;
-use words::whole;
+use words::number;
 
 // The hand that a word names.
 fn hand(word: &str) -> Option<Hand>
     ensures { result ≡ hand_of word.now }
 {
-    if is(word, "right") {
-        Some(Hand::Right)
-    } else if is(word, "left") {
-        Some(Hand::Left)
-    } else {
-        None
-    }
-}
-
-// The number that a word writes.
-fn number(word: &str) -> Option<usize>
-    ensures { result ≡ whole_of word.now }
-{
-    match whole(word) {
-        Some(n) => Some(n as usize),
-        None => None,
+    match word {
+        "right" => Some(Hand::Right),
+        "left" => Some(Hand::Left),
+        _ => None,
     }
 }
 
 // An option's value, where it was not given before.
-fn once<A: Copy>(wrong: Fault, before: Option<A>, value: Option<A>) -> Result<Option<A>, Fault>
+fn once<A: Copy>(wrong: Fault, before: Option<A>, value: Option<A>) -> Result<A, Fault>
     ensures { result ≡ once wrong before value }
 {
-    match before {
-        Some(_) => Err(Fault::Usage),
-        None => match value {
-            Some(a) => Ok(Some(a)),
-            None => Err(wrong),
-        },
+    if before.is_some() {
+        return Err(Fault::Usage);
     }
+    value.ok_or(wrong)
 }
 
 // One option with its value.
 fn option(given: Given, name: &str, value: &str) -> Result<Given, Fault>
     ensures { result ≡ option given name.now value.now }
 {
-    let mut given = given;
-    if is(name, "--hand") {
-        given.hand = once(Fault::WrongHand, given.hand, hand(value))?;
-    } else if is(name, "--sides") {
-        given.sides = once(Fault::WrongSides, given.sides, number(value))?;
-    } else if is(name, "--vertices") {
-        given.vertices = once(Fault::WrongVertices, given.vertices, number(value))?;
-    } else {
-        return Err(Fault::Usage);
-    }
-    Ok(given)
+    Ok(match name {
+        "--hand" => Given {
+            hand: Some(once(Fault::WrongHand, given.hand, hand(value))?),
+            ..given
+        },
+        "--sides" => Given {
+            sides: Some(once(Fault::WrongSides, given.sides, number(value))?),
+            ..given
+        },
+        "--vertices" => Given {
+            vertices: Some(once(Fault::WrongVertices, given.vertices, number(value))?),
+            ..given
+        },
+        _ => return Err(Fault::Usage),
+    })
 }
 
 // The options in their order, each with the word after it.
 fn options(words: &[String]) -> Result<Given, Fault>
     ensures { result ≡ options nothing (texts words.now) }
 {
-    let mut given = Given {
-        hand: None,
-        sides: None,
-        vertices: None,
-    };
-    let mut rest = words;
-    while rest.len() > 0 {
-        match option(given, text_at(rest, 0), text_at(rest, 1)) {
-            Ok(more) => given = more,
-            Err(fault) => return Err(fault),
-        }
-        rest = after(rest, 2);
+    let mut given = Given::default();
+    for pair in words.chunks(2) {
+        given = option(given, text_at(pair, 0), text_at(pair, 1))?;
     }
     Ok(given)
 }

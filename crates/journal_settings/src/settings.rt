@@ -9,7 +9,7 @@ pub struct Settings {
 }
 
 // What the options give.
-#[derive(Clone, Copy)]
+#[derive(Clone, Copy, Default)]
 pub(crate) struct Given {
     pub hand: Option<Hand>,
     pub sides: Option<usize>,

@@ -1,5 +1,5 @@
 -- The letters of the kinds.
-use Rattle.std.specs.Prelude.{ℕ, Bool, true, false, cond, ◌&&◌, Some, None, Option, ◌==◌}
+use Rattle.std.specs.Prelude.{ℕ, Bool, true, false, cond, ◌&&◌, List, Some, None, Option, ◌==◌, codes}
 use Rattle.kinds.specs.declared.kind.Kind.{Kind}
 use Rattle.kinds.specs.declared.kind.Kind.TheVariants.{Points, Arcs, Nodes, Polygons}
 
@@ -15,6 +15,12 @@ kind_of a b c =
     (cond (three a b c 78 79 68) (Some Nodes)
     (cond (three a b c 80 79 76) (Some Polygons) None)))
 
+abbrev pub kind_text : Kind → List ℕ
+kind_text Points = codes "PNT"
+kind_text Arcs = codes "ARC"
+kind_text Nodes = codes "NOD"
+kind_text Polygons = codes "POL"
+
 -- the letters by which a view is asked for: T, A, N, P
 abbrev pub kind_by_letter : ℕ → Option Kind
 kind_by_letter c =
@@ -23,20 +29,10 @@ kind_by_letter c =
     (cond (c == 78) (Some Nodes)
     (cond (c == 80) (Some Polygons) None)))
 
+-- the two are one kind
 abbrev pub same_kind : Kind → Kind → Bool
 same_kind Points Points = true
-same_kind Points Arcs = false
-same_kind Points Nodes = false
-same_kind Points Polygons = false
-same_kind Arcs Points = false
 same_kind Arcs Arcs = true
-same_kind Arcs Nodes = false
-same_kind Arcs Polygons = false
-same_kind Nodes Points = false
-same_kind Nodes Arcs = false
 same_kind Nodes Nodes = true
-same_kind Nodes Polygons = false
-same_kind Polygons Points = false
-same_kind Polygons Arcs = false
-same_kind Polygons Nodes = false
 same_kind Polygons Polygons = true
+same_kind _ _ = false

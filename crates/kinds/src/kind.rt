@@ -1,5 +1,5 @@
 /// The four kinds of file.
-#[derive(Clone, Copy)]
+#[derive(Clone, Copy, PartialEq, Eq, Debug)]
 pub enum Kind {
     /// PNT
     Points,

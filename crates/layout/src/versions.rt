@@ -1,22 +1,48 @@
-ghost use Rattle.std.specs.Prelude.{◌≡◌, ◌+◌, ◌^◌};
+ghost use Rattle.std.specs.Prelude.{◌≡◌, ◌+◌, ◌^◌, ok_or, slice_index, Some};
+ghost use Rattle.refusal.specs.declared.Refusal.TheVariants.{OtherVersion};
 ghost use Rattle.editions.specs.Numbers.{number_at, Field, Stored};
 ghost use Rattle.kinds.specs.Sizes.{sizes};
-ghost use Rattle.layout.specs.Versions.{width, version_of};
+ghost use Rattle.layout.specs.Versions.{width, version_of, version_text};
 
 use super::version::Version;
 use editions::edition::{Edition, Edition11, Edition20};
 use kinds::sizes::Sizes;
 use refusal::Refusal;
+use std::fmt;
 
+/// The version that four letters of a header name. A '0' may stand for the space before it. 5 when they name none.
+impl TryFrom<[u8; 4]> for Version {
+    type Error = Refusal;
+
+    ghost try_from_gives = { λ letters r. r ≡ ok_or (version_of (slice_index letters 0) (slice_index letters 1) (slice_index letters 2) (slice_index letters 3)) OtherVersion };
+
+    fn try_from(letters: [u8; 4]) -> Result<Version, Refusal> {
+        match &letters {
+            b" 1.1" | b"01.1" => Ok(Version::V11),
+            b" 2.0" | b"02.0" => Ok(Version::V20),
+            _ => Err(Refusal::OtherVersion),
+        }
+    }
+}
+
+/// An edition by its number.
+impl fmt::Display for Version {
+    ghost output = { λ version. Some (version_text version) };
+
+    fn fmt<W: fmt::Write>(&self, f: &mut fmt::Formatter<W>) -> fmt::Result {
+        f.write_str(self.name())
+    }
+}
+
+// Stays: each match leads to one of two types. To choose by `dyn` or by a closure needs a value of each edition, and is no plainer.
 impl Version {
-    /// The version that four letters of a header name. A '0' may stand for the space before it.
-    pub fn of_letters(a: u8, b: u8, c: u8, d: u8) -> Option<Version>
-        ensures { result ≡ version_of a b c d }
+    /// The number of an edition.
+    pub fn name(self) -> &'static str
+        ensures { result.now ≡ version_text self }
     {
-        match (a, b, c, d) {
-            (b' ' | b'0', b'1', b'.', b'1') => Some(Version::V11),
-            (b' ' | b'0', b'2', b'.', b'0') => Some(Version::V20),
-            _ => None,
+        match self {
+            Version::V11 => "1.1",
+            Version::V20 => "2.0",
         }
     }
 

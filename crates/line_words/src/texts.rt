@@ -6,17 +6,14 @@ ghost use Rattle.line_words.specs.LineWords.{texts, word};
 pub fn text_at(words: &[String], at: usize) -> &str
     ensures { result.now ≡ word (texts words.now) at }
 {
-    match words.get(at) {
-        Some(word) => word.as_str(),
-        None => "",
-    }
+    words.get(at).map_or("", |word| word.as_str())
 }
 
 /// The words after the first n.
 pub fn after(words: &[String], n: usize) -> &[String]
     ensures { texts result.now ≡ drop n (texts words.now) }
 {
-    if n < words.len() { &words[n..] } else { &[] }
+    words.get(n..).unwrap_or_default()
 }
 
 /// Whether a word is the named one.

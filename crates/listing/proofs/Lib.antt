@@ -1,5 +1,4 @@
 pub mod Putting
-pub mod Answered
 pub mod Walked
 pub mod RingLines
 pub mod Sizes

@@ -1,17 +1,15 @@
 -- Text put piece after piece.
-use Rattle.std.proofs.Common.{◌≡◌, ℕ, suc, ◌+◌, ◌/◌, ◌%◌, ◌^◌, ◌<◌, ◌≤◌, true, false, cond, eqb, List, [], ◌∷◌, ◌++◌, length, set, codes, decimal, sym, refl, ap, ◌∙◌, subst, arith}
+use Rattle.std.proofs.Common.{◌≡◌, ℕ, zero, suc, ◌+◌, ◌*◌, ◌/◌, ◌%◌, ◌^◌, ◌<◌, ◌≤◌, true, false, cond, eqb, List, [], ◌∷◌, ◌++◌, length, set, codes, decimal, Option, Some, None, IfSome, IfNone, MatchOption, sym, refl, ap, ◌∙◌, subst, pow-suc, lit<, arith}
 use lib.Seq.{sets}
 use Rattle.std.proofs.lemmas.List.{length-append, append_assoc, length_push, set_past}
-use Rattle.std.proofs.lemmas.Fmt.{decimal_digit, decimal_step}
-use Rattle.listing.specs.Puts.{Put, two, four}
+use Rattle.std.proofs.lemmas.Fmt.{decimal_digit, decimal_step, decimal_nonempty, length-decimal-le}
+use Rattle.listing.specs.Puts.{HasRoom, Put, Puts, two, four}
+use Rattle.listing.specs.declared.puts.Writer.{Writer}
 use Rattle.listing.specs.Texts.{counts_line, side_text}
 
 sets_append : (xs : List ℕ) (at : ℕ) (ws vs : List ℕ) → sets (sets xs at ws) (at + length ws) vs ≡ sets xs at (ws ++ vs)
 sets_append xs at [] vs = ap (λ (k : ℕ). sets xs k vs) (omega arith)
 sets_append xs at (w ∷ ws) vs = ap (λ (k : ℕ). sets (sets xs at (w ∷ ws)) k vs) (omega arith) ∙ sets_append (set xs at w) (suc at) ws vs
-
-pub put_none : (was : List ℕ) (at : ℕ) → Put was at [] was at
-put_none was at = record { next = omega arith; after = refl }
 
 -- a text, and then another
 pub put_then : {was : List ℕ} {at : ℕ} {ws mid : List ℕ} {to : ℕ} {vs is : List ℕ} {end : ℕ} → Put was at ws mid to → Put mid to vs is end → Put was at (ws ++ vs) is end
@@ -24,33 +22,40 @@ put_then {was = was} {at = at} {ws = ws} {to = to} {vs = vs} p q =
 pub put_same : {was : List ℕ} {at : ℕ} {ws vs is : List ℕ} {to : ℕ} → ws ≡ vs → Put was at ws is to → Put was at vs is to
 put_same {was = was} {at = at} {is = is} {to = to} e p = subst (λ (xs : List ℕ). Put was at xs is to) e p
 
--- under other names for what was left
-pub put_as : {was : List ℕ} {at : ℕ} {ws is is' : List ℕ} {to to' : ℕ} → is' ≡ is → to' ≡ to → Put was at ws is to → Put was at ws is' to'
-put_as d e p = record { next = e ∙ p.next; after = d ∙ p.after }
+-- ---- the same with a writer
+
+pub puts_then : {was mid is : Writer} {ws vs : List ℕ} → Puts was mid ws → Puts mid is vs → Puts was is (ws ++ vs)
+puts_then p q = record { put = put_then p.put q.put; same = q.same ∙ p.same }
+
+pub puts_same : {was is : Writer} {ws vs : List ℕ} → ws ≡ vs → Puts was is ws → Puts was is vs
+puts_same {was = was} {is = is} e p = subst (λ (xs : List ℕ). Puts was is xs) e p
+
+-- under another name for what was left
+pub puts_as : {was is other : Writer} {ws : List ℕ} → other ≡ is → Puts was is ws → Puts was other ws
+puts_as {was = was} {ws = ws} e p = subst (λ (w : Writer). Puts was w ws) (sym e) p
 
 -- of the whole text, all but what is left was put
-pub record Rest (was : List ℕ) (at : ℕ) (whole is : List ℕ) (to : ℕ) (left : List ℕ) : Type 0 where
-  pub next : to + length left ≡ at + length whole
-  pub after : sets is to left ≡ sets was at whole
+pub record Rest (was is : Writer) (whole left : List ℕ) : Type 0 where
+  pub next : is.at + length left ≡ was.at + length whole
+  pub after : sets is.out.now is.at left ≡ sets was.out.now was.at whole
+  pub same : is.out.ghost_name ≡ was.out.ghost_name
 
-pub rest_all : (was : List ℕ) (at : ℕ) (whole : List ℕ) → Rest was at whole was at whole
-rest_all was at whole = record { next = refl; after = refl }
-
-pub rest_more : {was : List ℕ} {at : ℕ} {whole mid : List ℕ} {to : ℕ} {ws vs is : List ℕ} {end : ℕ} → Rest was at whole mid to (ws ++ vs) → Put mid to ws is end → Rest was at whole is end vs
-rest_more {mid = mid} {to = to} {ws = ws} {vs = vs} {end = end} r p =
+pub rest_more : {was mid is : Writer} {whole ws vs : List ℕ} → Rest was mid whole (ws ++ vs) → Puts mid is ws → Rest was is whole vs
+rest_more {mid = mid} {is = is} {ws = ws} {vs = vs} r p =
     record {
-      next = omega (arith, r.next, p.next, length-append ws vs);
-      after = ap (λ (xs : List ℕ). sets xs end vs) p.after ∙ ap (λ (k : ℕ). sets (sets mid to ws) k vs) p.next ∙ sets_append mid to ws vs ∙ r.after;
+      next = omega (arith, r.next, p.put.next, length-append ws vs);
+      after = ap (λ (xs : List ℕ). sets xs is.at vs) p.put.after ∙ ap (λ (k : ℕ). sets (sets mid.out.now mid.at ws) k vs) p.put.next ∙ sets_append mid.out.now mid.at ws vs ∙ r.after;
+      same = p.same ∙ r.same;
     }
 
-pub rest_same : {was : List ℕ} {at : ℕ} {whole is : List ℕ} {to : ℕ} {ws vs : List ℕ} → ws ≡ vs → Rest was at whole is to ws → Rest was at whole is to vs
-rest_same {was = was} {at = at} {whole = whole} {is = is} {to = to} e r = subst (λ (xs : List ℕ). Rest was at whole is to xs) e r
+pub rest_same : {was is : Writer} {whole ws vs : List ℕ} → ws ≡ vs → Rest was is whole ws → Rest was is whole vs
+rest_same {was = was} {is = is} {whole = whole} e r = subst (λ (xs : List ℕ). Rest was is whole xs) e r
 
-pub rest_done : {was : List ℕ} {at : ℕ} {whole is : List ℕ} {to : ℕ} → Rest was at whole is to [] → Put was at whole is to
-rest_done r = record { next = omega (arith, r.next); after = r.after }
+pub rest_done : {was is : Writer} {whole : List ℕ} → Rest was is whole [] → Puts was is whole
+rest_done r = record { put = record { next = omega (arith, r.next); after = r.after }; same = r.same }
 
 -- where the whole fits, what is left does
-pub rest_room : {was : List ℕ} {at : ℕ} {whole is : List ℕ} {to : ℕ} (ws vs : List ℕ) → at + length whole < 2 ^ 64 → Rest was at whole is to (ws ++ vs) → to + length ws < 2 ^ 64
+pub rest_room : {was is : Writer} {whole : List ℕ} (ws vs : List ℕ) → HasRoom was (length whole) → Rest was is whole (ws ++ vs) → HasRoom is (length ws)
 rest_room ws vs h r = omega (arith, r.next, length-append ws vs)
 
 -- past the end
@@ -59,6 +64,10 @@ put_past was at [] h = refl
 put_past was at (w ∷ ws) h = put_past was (suc at) ws (omega arith) ∙ ap (λ (xs : List ℕ). sets xs (suc at) ws) (sym (set_past was at w h))
 
 -- ---- digits
+
+ten_pos : (k : ℕ) → 0 < 10 ^ k
+ten_pos zero = lit< tt
+ten_pos (suc k) = rw pow-suc (omega (arith, ten_pos k))
 
 pub length_digit : (n : ℕ) → n < 10 → length (decimal n) ≡ 1
 length_digit n h = ap length (decimal_digit n h)
@@ -98,24 +107,22 @@ length_last_four n h l = ap length (last_four n h l) ∙ length-append (decimal 
 pub length_two : (n : ℕ) → 10 ≤ n → n < 100 → length (decimal n) ≡ 2
 length_two n h l = omega (arith, length_digits n h (omega arith), length_digit (n / 10) (omega arith))
 
-pub length_three : (n : ℕ) → 100 ≤ n → n < 1000 → length (decimal n) ≡ 3
-length_three n h l = omega (arith, length_digits n (omega arith) (omega arith), length_two (n / 10) (omega arith) (omega arith))
+length_least : (k n : ℕ) → 10 ^ k ≤ n → n < 2 ^ 64 → k + 1 ≤ length (decimal n)
+length_least zero n h l = omega (arith, decimal_nonempty n l)
+length_least (suc k) n h l =
+    let t : 10 ^ k * 10 ≤ n = rw pow-suc at h in
+    let p : 0 < 10 ^ k = ten_pos k in
+    omega (arith, length_digits n (omega arith) l, length_least k (n / 10) (omega arith) (omega arith))
 
-pub length_four : (n : ℕ) → 1000 ≤ n → n < 10000 → length (decimal n) ≡ 4
-length_four n h l = omega (arith, length_digits n (omega arith) (omega arith), length_three (n / 10) (omega arith) (omega arith))
+-- how many digits a number has, by the greatest power of ten in it
+pub length_power : (k n : ℕ) → 10 ^ k ≤ n → n < 10 * 10 ^ k → n < 2 ^ 64 → k + 1 ≡ length (decimal n)
+length_power k n h u l =
+    let t : n < 10 ^ suc k = rw pow-suc (omega arith) in
+    omega (arith, length_least k n h l, length-decimal-le (suc k) n (omega arith) t l)
 
-pub length_five : (n : ℕ) → 10000 ≤ n → n < 100000 → length (decimal n) ≡ 5
-length_five n h l = omega (arith, length_digits n (omega arith) (omega arith), length_four (n / 10) (omega arith) (omega arith))
-
-pub length_more : (n : ℕ) → 100000 ≤ n → n < 2 ^ 64 → length (decimal n) ≡ length (decimal (n / 100000)) + 5
-length_more n h l =
-    let a = length_digits n (omega arith) l in
-    let b = length_digits (n / 10) (omega arith) (omega arith) in
-    let c = length_digits (n / 10 / 10) (omega arith) (omega arith) in
-    let d = length_digits (n / 10 / 10 / 10) (omega arith) (omega arith) in
-    let e = length_digits (n / 10 / 10 / 10 / 10) (omega arith) (omega arith) in
-    let f : n / 10 / 10 / 10 / 10 / 10 ≡ n / 100000 = omega arith in
-    omega (arith, a, b, c, d, e, ap (λ (k : ℕ). length (decimal k)) f)
+pub counted : (n r : ℕ) (N : ℕ → Type 0) (o : Option ℕ) → n < 2 ^ 64 → IfNone o (n ≡ 0) → IfSome o (λ k. 10 ^ k ≤ n) → IfSome o (λ k. n < 10 * 10 ^ k) → ((k : ℕ) → N k → r ≡ k + 1) → MatchOption o (r ≡ 1) N → r ≡ length (decimal n)
+counted n r N None l z h u f m = m ∙ sym (length_digit n (omega arith))
+counted n r N (Some k) l z h u f m = f k m ∙ length_power k n h u l
 
 pub length_side : (s : ℕ) → length (side_text s) ≡ length (decimal (s / 2)) + 2
 length_side s = elim (eqb (s % 2) 0) as (λ b. length (codes " " ++ (decimal (s / 2) ++ cond b (codes "+") (codes "-"))) ≡ length (decimal (s / 2)) + 2) [

@@ -48,7 +48,7 @@ lines_short m (suc k) h =
     (λ _. omega (arith, lines_short m k (λ s l. h s (omega arith)), length-append (lines_below m k) []))
 
 sides_few : (m : Map) → length (state_of m).sides ≤ 32768
-sides_few m = omega (arith, long m.sides.rows.now m.sides.used m.sides_fit, m.arcs_few)
+sides_few m = omega (arith, long m.sides.rows.now m.sides.used m.sides.fits, m.arcs_few)
 
 line_short : (m : Map) (s : ℕ) → s < length (state_of m).sides → length (line_from (state_of m) s) ≤ 800000
 line_short m s l =

@@ -4,23 +4,27 @@
 ghost use Rattle.std.specs.Prelude.{◌≡◌, length};
 ghost use Rattle.topology.specs.States.{state_of};
 ghost use Rattle.topology.specs.Questions.{rings_of};
-ghost use Rattle.listing.specs.Puts.{Put};
+ghost use Rattle.std.proofs.lemmas.List.Edits.{sets};
 ghost use Rattle.listing.specs.Texts.{listing, text_outcome, text_leaves};
 
 mod lines;
 mod puts;
 
 use lines::{put_head, put_rings};
+use puts::Writer;
 use refusal::Refusal;
 use topology::map::Map;
 
 // The listing from the first byte on, as far as the buffer reaches, given how many rings there are.
 fn put_listing(map: &Map<'_>, rings: usize, out: &mut [u8]) -> usize
     requires { rings ≡ length (rings_of (state_of map.now)) }
-    ensures { Put out.old 0 (listing (state_of map.now)) out.new result }
+    ensures count { result ≡ length (listing (state_of map.now)) }
+    ensures after { out.new ≡ sets out.old 0 (listing (state_of map.now)) }
 {
-    let first = put_head(map, rings, out, 0);
-    put_rings(map, out, first)
+    let mut to = Writer { out, at: 0 };
+    put_head(map, rings, &mut to);
+    put_rings(map, &mut to);
+    to.at
 }
 
 /// How many bytes the listing of a map has.

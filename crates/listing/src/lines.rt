@@ -1,25 +1,14 @@
 // The lines of a listing.
-ghost use Rattle.std.specs.Prelude.{◌≡◌, ℕ, ◌+◌, ◌^◌, ◌<◌, ◌≤◌, length};
+ghost use Rattle.std.specs.Prelude.{◌≡◌, ◌≤◌, length};
 ghost use Rattle.rings.specs.Circles.{ring};
 ghost use Rattle.topology.specs.Rows.{next_of, polygon_of, tells};
 ghost use Rattle.topology.specs.States.{state_of};
 ghost use Rattle.topology.specs.Questions.{rings_of};
-ghost use Rattle.listing.specs.Puts.{Put, told};
+ghost use Rattle.listing.specs.Puts.{HasRoom, Puts};
 ghost use Rattle.listing.specs.Texts.{sides_text, ring_line, ring_lines, head_line};
 
-use super::puts::{put_byte, put_counts, put_number, put_side};
-use refusal::Refusal;
+use super::puts::Writer;
 use topology::map::Map;
-
-// What a question answered, 0 for a refusal.
-fn told(answer: Result<usize, Refusal>) -> usize
-    ensures { result ≡ told answer }
-{
-    match answer {
-        Ok(value) => value,
-        Err(_) => 0,
-    }
-}
 
 // How many sides there are: two of each arc.
 fn side_count(map: &Map<'_>) -> usize
@@ -33,76 +22,67 @@ fn side_count(map: &Map<'_>) -> usize
 fn next_side(map: &Map<'_>, side: usize) -> usize
     ensures { result ≡ next_of (state_of map.now).sides side }
 {
-    told(map.next(side))
+    map.next(side).unwrap_or(0)
 }
 
 // The polygon of a side.
 fn side_polygon(map: &Map<'_>, side: usize) -> usize
     ensures { result ≡ polygon_of (state_of map.now).sides side }
 {
-    told(map.polygon(side))
+    map.polygon(side).unwrap_or(0)
 }
 
 // Whether a side is the lowest of its ring.
 fn starts_ring(map: &Map<'_>, side: usize) -> bool
     ensures { result ≡ tells (state_of map.now).sides side }
 {
-    told(map.lowest(side)) == side
+    map.lowest(side).unwrap_or(0) == side
 }
 
 // The sides of the ring that a side starts.
-fn put_sides(map: &Map<'_>, out: &mut [u8], at: usize, start: usize) -> usize
-    requires { at + length (sides_text (ring (next_of (state_of map.now).sides) (length (state_of map.now).sides) start)) < 2 ^ 64 }
-    ensures { Put out.old at (sides_text (ring (next_of (state_of map.now).sides) (length (state_of map.now).sides) start)) out.new result }
+// Stays: the range bounds a walk along the ring. A `loop` needs the sides left of it as its measure, and is no plainer.
+fn put_sides(map: &Map<'_>, to: &mut Writer<'_>, start: usize)
+    requires { HasRoom to.old (length (sides_text (ring (next_of (state_of map.now).sides) (length (state_of map.now).sides) start))) }
+    ensures { Puts to.old to.new (sides_text (ring (next_of (state_of map.now).sides) (length (state_of map.now).sides) start)) }
 {
-    let mut to = put_side(out, at, start);
+    to.put_side(start);
     let mut side = start;
     for _i in 0..side_count(map) {
         side = next_side(map, side);
         if side == start {
-            return to;
+            return;
         }
-        to = put_side(out, to, side);
+        to.put_side(side);
     }
-    to
 }
 
 // The line of the ring that a side starts.
-fn put_ring(map: &Map<'_>, out: &mut [u8], at: usize, start: usize) -> usize
-    requires { at + length (ring_line (state_of map.now) (ring (next_of (state_of map.now).sides) (length (state_of map.now).sides) start)) < 2 ^ 64 }
-    ensures { Put out.old at (ring_line (state_of map.now) (ring (next_of (state_of map.now).sides) (length (state_of map.now).sides) start)) out.new result }
+fn put_ring(map: &Map<'_>, to: &mut Writer<'_>, start: usize)
+    requires { HasRoom to.old (length (ring_line (state_of map.now) (ring (next_of (state_of map.now).sides) (length (state_of map.now).sides) start))) }
+    ensures { Puts to.old to.new (ring_line (state_of map.now) (ring (next_of (state_of map.now).sides) (length (state_of map.now).sides) start)) }
 {
-    let colon = put_number(out, at, side_polygon(map, start));
-    let first = put_byte(out, colon, b':');
-    let end = put_sides(map, out, first, start);
-    put_byte(out, end, b'\n')
+    to.put_number(side_polygon(map, start));
+    to.put_byte(b':');
+    put_sides(map, to, start);
+    to.put_byte(b'\n');
 }
 
 // The lines of all rings, rising by lowest side.
-pub(crate) fn put_rings(map: &Map<'_>, out: &mut [u8], at: usize) -> usize
-    requires { at + length (ring_lines (state_of map.now) (rings_of (state_of map.now))) < 2 ^ 64 }
-    ensures { Put out.old at (ring_lines (state_of map.now) (rings_of (state_of map.now))) out.new result }
+pub(crate) fn put_rings(map: &Map<'_>, to: &mut Writer<'_>)
+    requires { HasRoom to.old (length (ring_lines (state_of map.now) (rings_of (state_of map.now)))) }
+    ensures { Puts to.old to.new (ring_lines (state_of map.now) (rings_of (state_of map.now))) }
 {
-    let mut to = at;
     for s in 0..side_count(map) {
         if starts_ring(map, s) {
-            to = put_ring(map, out, to, s);
+            put_ring(map, to, s);
         }
     }
-    to
 }
 
 // The line of the counts, given how many rings there are.
-pub(crate) fn put_head(map: &Map<'_>, rings: usize, out: &mut [u8], at: usize) -> usize
-    requires { (rings ≡ length (rings_of (state_of map.now))) × (at + length (head_line (state_of map.now)) < 2 ^ 64) }
-    ensures { Put out.old at (head_line (state_of map.now)) out.new result }
+pub(crate) fn put_head(map: &Map<'_>, rings: usize, to: &mut Writer<'_>)
+    requires { (rings ≡ length (rings_of (state_of map.now))) × HasRoom to.old (length (head_line (state_of map.now))) }
+    ensures { Puts to.old to.new (head_line (state_of map.now)) }
 {
-    put_counts(
-        out,
-        at,
-        map.arcs(),
-        map.node_count(),
-        map.polygon_count(),
-        rings,
-    )
+    to.put_counts(map.arcs(), map.node_count(), map.polygon_count(), rings);
 }

@@ -1,13 +1,8 @@
 -- The laws of `run` and `overwrite`.
-use Rattle.std.proofs.Common.{◌≡◌, ℕ, ◌+◌, ◌<◌, ◌≤◌, List, [], ◌++◌, length, get_or, take, drop, set, refl, arith, rules}
-use borrow.Rule.Slice.PartMut.{put_mid}
-use Rattle.std.proofs.lemmas.List.{length-append, length-take, length-drop, length-take-le, take_at, drop_at, drop-drop, same_lists, places, get_or-set_same}
+use Rattle.std.proofs.Common.{◌≡◌, ℕ, ◌+◌, ◌<◌, ◌≤◌, List, ◌++◌, length, get_or, take, drop, set, refl, arith, rules}
+use Rattle.std.proofs.lemmas.List.{length-append, length-take, length-drop, length-take-le, take_at, drop_at, same_lists, places, get_or-set_same}
 use Rattle.std.proofs.lemmas.Bool.{cases_eq}
 use Rattle.media.specs.Runs.{run, overwrite}
-
--- a write through `&mut s[a..e]`, as a goal has it, is an overwrite
-pub put_mid_overwrite : {X : Type 0} (a k : ℕ) (xs ys zs : List X) → ys ≡ zs → k ≡ length zs → put_mid a k xs ys ≡ overwrite xs a zs
-put_mid_overwrite a k xs ys zs e f = rw (e, f, drop-drop)
 
 pub length_run : {X : Type 0} (xs : List X) (a n : ℕ) → a + n ≤ length xs → length (run xs a n) ≡ n
 length_run xs a n h = simp (length-take, length-drop) (omega arith)
@@ -31,9 +26,6 @@ pub run_run : {X : Type 0} (xs : List X) (a n b m : ℕ) → b + m ≤ n → run
 run_run xs a n b m h = same_lists _ _ (simp (length-take, length-drop) (omega arith)) (λ k d p. grind (arith, places))
 
 -- a loop that writes one element after another
-pub overwrite_none : {X : Type 0} (xs : List X) (a : ℕ) → overwrite xs a [] ≡ xs
-overwrite_none xs a = same_lists _ _ (simp (length-append, length-take, length-drop) (omega arith)) (λ k d p. grind (arith, places))
-
 pub overwrite_more : {X : Type 0} (xs ws : List X) (a i : ℕ) (d : X) → a + i < length xs → i < length ws → set (overwrite xs a (take i ws)) (a + i) (get_or ws i d) ≡ overwrite xs a (take (i + 1) ws)
 overwrite_more xs ws a i d h l = same_lists _ _ (search (rules, places)) (λ k d p. grind (arith, places, get_or-set_same, cases_eq k (a + i)))
 

@@ -1,4 +1,4 @@
--- What the calls of a medium answer, for all arguments. Sums are exact: numbers here have no largest.
+-- What the calls of a medium answer, and what reads from bytes do, for all arguments. Sums are exact: numbers here have no largest.
 use Rattle.std.specs.Prelude.{◌≡◌, ℕ, ◌+◌, ◌<◌, ◌≤◌, List, length, Ok, Err, Result}
 use Rattle.refusal.specs.declared.Refusal.{Refusal}
 use Rattle.refusal.specs.declared.Refusal.TheVariants.{PastEnd}
@@ -15,3 +15,8 @@ Read bs at was is (Err e) = (length bs < at + length was) × (is ≡ was) × (e 
 abbrev pub Written : {X : Type 0} → List ℕ → ℕ → List ℕ → List ℕ → Result X Refusal → Type 0
 Written was at ws is (Ok x) = (at + length ws ≤ length was) × (is ≡ overwrite was at ws)
 Written was at ws is (Err e) = (length was < at + length ws) × (is ≡ was) × (e ≡ PastEnd)
+
+-- A field of n bytes at a place, which means v, is read: refused exactly when it passes the end.
+abbrev pub Field : {X : Type 0} → List ℕ → ℕ → ℕ → X → Result X Refusal → Type 0
+Field bs at n v (Ok x) = (at + n ≤ length bs) × (x ≡ v)
+Field bs at n v (Err e) = (length bs < at + n) × (e ≡ PastEnd)

@@ -1,6 +1,7 @@
 ghost use Rattle.std.specs.Prelude.{◌≡◌, [], ◌∷◌};
 
 use super::medium::Medium;
+use super::runs::{bytes_at, put_bytes};
 use refusal::Refusal;
 
 /// A block of the caller's memory as a medium.
@@ -29,22 +30,11 @@ impl<'a> Medium for Block<'a> {
     }
 
     fn read(&self, at: usize, into: &mut [u8]) -> Result<(), Refusal> {
-        let size = self.block.len();
-        if at > size || into.len() > size - at {
-            return Err(Refusal::PastEnd);
-        }
-        let end = at + into.len();
-        into.copy_from_slice(&self.block[at..end]);
+        into.copy_from_slice(bytes_at(self.block, at, into.len())?);
         Ok(())
     }
 
     fn write(&mut self, at: usize, from: &[u8]) -> Result<(), Refusal> {
-        let size = self.block.len();
-        if at > size || from.len() > size - at {
-            return Err(Refusal::PastEnd);
-        }
-        let end = at + from.len();
-        self.block[at..end].copy_from_slice(from);
-        Ok(())
+        put_bytes(self.block, at, from)
     }
 }

@@ -3,3 +3,4 @@
 
 pub mod block;
 pub mod medium;
+pub mod runs;

@@ -1,6 +1,7 @@
 -- Numbers below n that all differ are at most n.
-use Rattle.std.proofs.Common.{◌≡◌, ℕ, zero, suc, ◌<◌, ◌≤◌, cond, eqb, sym, ◌∙◌, inl, inr, arith, ne_eqb}
+use Rattle.std.proofs.Common.{◌≡◌, ℕ, zero, suc, ◌<◌, ◌≤◌, cond, eqb, List, length, get_or, sym, ◌∙◌, inl, inr, arith, ne_eqb}
 use Rattle.std.proofs.lemmas.Bool.{cases_eq, eq-eqb}
+use Rattle.pages.specs.Paging.{Below, Apart}
 
 -- f, with v in the place of n
 abbrev moved : (ℕ → ℕ) → ℕ → ℕ → ℕ → ℕ
@@ -12,7 +13,7 @@ moved_there f n v k e = rw (eq-eqb (f k) n e)
 moved_else : (f : ℕ → ℕ) (n v k : ℕ) → (f k ≡ n → ⊥) → moved f n v k ≡ f k
 moved_else f n v k e = rw (ne_eqb (f k) n e)
 
-pub at_most : (m n : ℕ) (f : ℕ → ℕ) → ((k : ℕ) → k < m → f k < n) → ((a b : ℕ) → a < m → b < m → f a ≡ f b → a ≡ b) → m ≤ n
+at_most : (m n : ℕ) (f : ℕ → ℕ) → ((k : ℕ) → k < m → f k < n) → ((a b : ℕ) → a < m → b < m → f a ≡ f b → a ≡ b) → m ≤ n
 at_most zero n f low one = omega arith
 at_most (suc m) zero f low one = absurd (omega (arith, low 0 (omega arith)))
 at_most (suc m) (suc n) f low one =
@@ -42,3 +43,7 @@ at_most (suc m) (suc n) f low one =
     ]
     in
     omega (arith, at_most m n g below apart)
+
+-- so a list of pages has at most 128
+pub few : (ps : List ℕ) → Below ps (length ps) → Apart ps (length ps) → length ps ≤ 128
+few ps below apart = at_most (length ps) 128 (λ k. get_or ps k 0) below (λ a b p q e. apart a b (p, q, e))

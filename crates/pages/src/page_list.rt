@@ -1,11 +1,13 @@
 ghost use Rattle.std.specs.Prelude.{◌≡◌, ℕ, ◌*◌, ◌/◌, ◌<◌, ◌≤◌, take, MatchResult, slice_index};
 ghost use Rattle.pages.specs.Paging.{Below, Apart, Unfit};
 
+use media::runs::put_bytes;
 use refusal::Refusal;
 
 /// The numbers of some of the 128 pages, none above 127 and none twice.
 #[derive(Clone, Copy)]
 pub struct PageList {
+    // Stays: an array and how much of it is used, since the library has no heap.
     list: [u8; 128],
     len: usize,
     ghost few: { len ≤ 128 },
@@ -15,23 +17,21 @@ pub struct PageList {
 
 impl PageList {
     /// The list of the given numbers. 2 when one is above 127, else 3 when one stands twice.
+    #[tactic(auto, using(crate::proofs::Pigeons::few))]
     pub fn new(numbers: &[u8]) -> Result<PageList, Refusal>
         ensures { MatchResult result (λ p. take p.len p.list ≡ numbers.now) (λ e. Unfit numbers.now e) }
     {
-        for k in 0..numbers.len() {
-            if numbers[k] > 127 {
-                return Err(Refusal::NoSuchPage);
+        if numbers.iter().any(|page| *page > 127) {
+            return Err(Refusal::NoSuchPage);
+        }
+        for (j, page) in numbers.iter().enumerate() {
+            if numbers[..j].contains(page) {
+                return Err(Refusal::PageTwice);
             }
         }
         let mut list = [0u8; 128];
-        for j in 0..numbers.len() {
-            for i in 0..j {
-                if numbers[i] == numbers[j] {
-                    return Err(Refusal::PageTwice);
-                }
-            }
-            list[j] = numbers[j];
-        }
+        // Numbers below 128 that all differ are at most 128, so there is room for them.
+        put_bytes(&mut list, 0, numbers)?;
         Ok(PageList {
             list,
             len: numbers.len(),

@@ -4,6 +4,7 @@ ghost use Rattle.pages.specs.Paging.{content, stored};
 
 use super::page_list::PageList;
 use media::medium::Medium;
+use media::runs::end_of;
 use refusal::Refusal;
 
 /// 128 pages of 512 bytes, of which a list says which are the medium's, in its order.
@@ -28,9 +29,9 @@ fn fetch(pages: &[[u8; 512]; 128], list: &PageList, at: usize, into: &mut [u8])
     requires { at + length into.old ≤ 512 * list.now.len }
     ensures { into.new ≡ run (content pages.now list.now.list list.now.len) at (length into.old) }
 {
-    for i in 0..into.len() {
+    for (i, byte) in into.iter_mut().enumerate() {
         let a = at + i;
-        into[i] = pages[list.page(a)][a % 512];
+        *byte = pages[list.page(a)][a % 512];
     }
 }
 
@@ -49,12 +50,13 @@ fn store(pages: &mut [[u8; 512]; 128], list: &PageList, at: usize, from: &[u8])
     requires { at + length from.now ≤ 512 * list.now.len }
     ensures { content pages.new list.now.list list.now.len ≡ overwrite (content pages.old list.now.list list.now.len) at from.now }
 {
-    for i in 0..from.len() {
+    for (i, byte) in from.iter().enumerate() {
         let a = at + i;
-        put(pages, list.page(a), a % 512, from[i]);
+        put(pages, list.page(a), a % 512, *byte);
     }
 }
 
+#[tactic(auto, using(crate::proofs::Contents::length_content))]
 impl<'a> Medium for Pages<'a> {
     ghost bytes = { λ p. content p.pages.now p.list.list p.list.len };
 
@@ -65,19 +67,13 @@ impl<'a> Medium for Pages<'a> {
     }
 
     fn read(&self, at: usize, into: &mut [u8]) -> Result<(), Refusal> {
-        let size = self.size();
-        if at > size || into.len() > size - at {
-            return Err(Refusal::PastEnd);
-        }
+        end_of(self.size(), at, into.len())?;
         fetch(self.pages, &self.list, at, into);
         Ok(())
     }
 
     fn write(&mut self, at: usize, from: &[u8]) -> Result<(), Refusal> {
-        let size = self.size();
-        if at > size || from.len() > size - at {
-            return Err(Refusal::PastEnd);
-        }
+        end_of(self.size(), at, from.len())?;
         store(self.pages, &self.list, at, from);
         Ok(())
     }

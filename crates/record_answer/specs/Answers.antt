@@ -1,5 +1,5 @@
 -- What is answered to a request for the records of a file.
-use Rattle.std.specs.Prelude.{ℕ, Bool, cond, List, Some, None, Ok, Err, string_bytes, Option, Result}
+use Rattle.std.specs.Prelude.{◌≡◌, ℕ, Bool, cond, List, Some, None, Ok, Err, String, string_bytes, Option, Result}
 use Rattle.refusal.specs.declared.Refusal.{Refusal}
 use Rattle.refusal.specs.declared.Refusal.TheVariants.{UnfitBox}
 use Rattle.boxes.specs.declared.edges.Edges.{Edges}
@@ -11,8 +11,8 @@ use Rattle.records.specs.Parts.{record_outcome, list_outcome}
 use Rattle.views.specs.Shapes.{view_outcome}
 use Rattle.records.specs.Boxing.{box_outcome}
 use Rattle.tables.specs.Windows.{met}
-use Rattle.record_answer.specs.declared.answer.Answer.{Answer}
-use Rattle.record_answer.specs.declared.answer.Answer.TheVariants.{Text, Refused, NoBoxes}
+use Rattle.record_answer.specs.declared.unanswered.Unanswered.{Unanswered}
+use Rattle.record_answer.specs.declared.unanswered.Unanswered.TheVariants.{NoMemory, Refused, NoBoxes}
 use Rattle.record_lines.specs.Texts.{line}
 use Rattle.record_report.specs.Reports.{report_text, every}
 
@@ -23,6 +23,11 @@ text_on kind bs s wanted = report_text kind s.version s.count wanted (line (reco
 -- the records whose box meets a window, where edges says what a record's bytes tell of its box
 abbrev pub meeting : Kind → (List ℕ → Edges) → List ℕ → Shape → Edges → ℕ → Bool
 meeting kind edges bs s window k = met (box_outcome kind edges bs s k) window
+
+-- the records wanted: all, or those that meet the window
+abbrev pub wanted_by : Kind → (List ℕ → Edges) → List ℕ → Shape → Option Edges → ℕ → Bool
+wanted_by kind edges bs s None = every
+wanted_by kind edges bs s (Some e) = meeting kind edges bs s e
 
 abbrev pub by_window : Kind → List ℕ → Shape → Edges → Option (List ℕ)
 by_window Points bs s e = Some (text_on Points bs s (meeting Points (λ r. point_at r 0) bs s e))
@@ -40,8 +45,13 @@ by_view bs (Some e) (Ok (kind, s)) = cond (fair_edges e) (Ok (by_window kind bs 
 abbrev pub answer_outcome : List ℕ → ℕ → ℕ → Option Edges → Result (Option (List ℕ)) Refusal
 answer_outcome bs letter arcs window = by_view bs window (view_outcome bs letter arcs)
 
--- an answer, by its text
-abbrev pub said : Answer → Result (Option (List ℕ)) Refusal
-said (Text s) = Ok (Some (string_bytes s))
-said (Refused e) = Err e
-said NoBoxes = Ok None
+-- why there is no report agrees with the outcome, so far as memory does not run out
+abbrev pub Unreported : Result (Option (List ℕ)) Refusal → Unanswered → Type 0
+Unreported o NoMemory = Unit {0}
+Unreported o (Refused e) = o ≡ Err e
+Unreported o NoBoxes = o ≡ Ok None
+
+-- An answer agrees with its outcome, so far as memory does not run out.
+abbrev pub Answered : {Z : Type 0} → Result (Option (List ℕ)) Refusal → Result (String Z) Unanswered → Type 0
+Answered o (Ok s) = o ≡ Ok (Some (string_bytes s))
+Answered o (Err e) = Unreported o e

@@ -1,62 +1,43 @@
-ghost use Rattle.std.specs.Prelude.{◌≡◌, IfOk, Some, Ok, string_bytes};
+ghost use Rattle.std.specs.Prelude.{◌≡◌, IfOk, Ok, option_map, string_bytes};
 ghost use Rattle.boxes.specs.Boxes.{edges_of};
-ghost use Rattle.record_answer.specs.Answers.{text_on, meeting, by_window, answer_outcome, said};
+ghost use Rattle.record_answer.specs.Answers.{text_on, wanted_by, by_view, answer_outcome, Answered};
 ghost use Rattle.views.specs.Viewed.{kind_seen, file_seen, shape_seen};
-ghost use Rattle.record_report.specs.Reports.{every};
 
-use super::answer::Answer;
+use super::unanswered::Unanswered;
 use boxes::bounds::Bounds;
 use boxes::edges::Edges;
 use kinds::kind::Kind;
 use record_report::reports::{report_all, report_found};
-use records::record_kinds::{BoxedKind, RecordKind};
+use records::record_kinds::BoxedKind;
 use records::records::Records;
-use refusal::Refusal;
 use std::alloc::{AllocError, Global};
 use views::view::View;
 
-// The report on all records.
-fn on_all<K: RecordKind>(heap: Global, table: &Records<'_, K>) -> Result<String, AllocError>
-    ensures { IfOk result (λ s. string_bytes s ≡ text_on K.RecordKind.kind table.now.file.now table.now.shape every) }
-{
-    report_all(heap, K::kind(), table.version(), &*table)
-}
-
-// The report on the records that meet a window.
-fn on_found<K: BoxedKind>(
+// The report on all records of a table that has boxes, or on those that meet a window.
+fn report_boxed<K: BoxedKind>(
     heap: Global,
     table: &Records<'_, K>,
-    window: &Bounds,
+    window: Option<Bounds>,
 ) -> Result<String, AllocError>
-    ensures { IfOk result (λ s. string_bytes s ≡ text_on K.RecordKind.kind table.now.file.now table.now.shape (meeting K.RecordKind.kind K.BoxedKind.edges table.now.file.now table.now.shape (edges_of window.now))) }
+    ensures { IfOk result (λ s. string_bytes s ≡ text_on K.RecordKind.kind table.now.file.now table.now.shape (wanted_by K.RecordKind.kind K.BoxedKind.edges table.now.file.now table.now.shape (option_map edges_of window))) }
 {
-    report_found(heap, K::kind(), table.version(), &*table, window)
+    match window {
+        Some(w) => report_found(heap, K::kind(), table.version(), &*table, &w),
+        None => report_all(heap, K::kind(), table.version(), &*table),
+    }
 }
 
-// The answer about all records of a view.
-fn answer_all(heap: Global, view: &View<'_>) -> Result<Answer, AllocError>
-    ensures { IfOk result (λ a. said a ≡ Ok (Some (text_on (kind_seen view.now) (file_seen view.now) (shape_seen view.now) every))) }
+// The report on a view.
+fn report_view(heap: Global, view: &View<'_>, window: Option<Bounds>) -> Result<String, Unanswered>
+    ensures { Answered (by_view (file_seen view.now) (option_map edges_of window) (Ok (kind_seen view.now, shape_seen view.now))) result }
 {
-    let text = match view {
-        View::OfPoints(t) => on_all(heap, t)?,
-        View::OfArcs(t) => on_all(heap, t)?,
-        View::OfNodes(t) => on_all(heap, t)?,
-        View::OfPolygons(t) => on_all(heap, t)?,
-    };
-    Ok(Answer::Text(text))
-}
-
-// The answer about the records of a view that meet a window.
-fn answer_found(heap: Global, view: &View<'_>, window: &Bounds) -> Result<Answer, AllocError>
-    ensures { IfOk result (λ a. said a ≡ Ok (by_window (kind_seen view.now) (file_seen view.now) (shape_seen view.now) (edges_of window.now))) }
-{
-    let text = match view {
-        View::OfPoints(t) => on_found(heap, t, window)?,
-        View::OfArcs(t) => on_found(heap, t, window)?,
-        View::OfNodes(_) => return Ok(Answer::NoBoxes),
-        View::OfPolygons(t) => on_found(heap, t, window)?,
-    };
-    Ok(Answer::Text(text))
+    Ok(match view {
+        View::OfPoints(t) => report_boxed(heap, t, window)?,
+        View::OfArcs(t) => report_boxed(heap, t, window)?,
+        View::OfNodes(_) if window.is_some() => return Err(Unanswered::NoBoxes),
+        View::OfNodes(t) => report_all(heap, Kind::Nodes, t.version(), &*t)?,
+        View::OfPolygons(t) => report_boxed(heap, t, window)?,
+    })
 }
 
 /// The answer to a request for the records of a file, asked for by letter, with the arc count for a POL, and by window if one is given.
@@ -66,18 +47,10 @@ pub fn answer(
     file: &[u8],
     arcs: u64,
     window: Option<Edges>,
-) -> Result<Answer, AllocError>
-    ensures { IfOk result (λ a. said a ≡ answer_outcome file.now letter arcs window) }
+) -> Result<String, Unanswered>
+    ensures { Answered (answer_outcome file.now letter arcs window) result }
 {
-    let view = match View::new(letter, file, arcs) {
-        Ok(v) => v,
-        Err(e) => return Ok(Answer::Refused(e)),
-    };
-    let Some(edges) = window else {
-        return answer_all(heap, &view);
-    };
-    match Bounds::new(edges) {
-        Ok(w) => answer_found(heap, &view, &w),
-        Err(e) => Ok(Answer::Refused(e)),
-    }
+    let view = View::new(letter, file, arcs)?;
+    let window = window.map(Bounds::new).transpose()?;
+    report_view(heap, &view, window)
 }

@@ -1,5 +1,5 @@
 // The answer to a request for the records of a file.
 #![tactic(auto)]
 
-pub mod answer;
 pub mod answers;
+pub mod unanswered;

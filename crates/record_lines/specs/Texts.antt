@@ -1,26 +1,16 @@
 -- The lines of a report, byte for byte.
 use Rattle.std.specs.Prelude.{ℕ, List, ◌++◌, Ok, Err, codes, decimal, Result}
 use Rattle.refusal.specs.declared.Refusal.{Refusal}
-use Rattle.refusal.specs.Numbers.{number}
+use Rattle.refusal.specs.Numbers.{refusal_text}
 use Rattle.kinds.specs.declared.kind.Kind.{Kind}
-use Rattle.kinds.specs.declared.kind.Kind.TheVariants.{Points, Arcs, Nodes, Polygons}
+use Rattle.kinds.specs.Letters.{kind_text}
 use Rattle.layout.specs.declared.version.Version.{Version}
-use Rattle.layout.specs.declared.version.Version.TheVariants.{V11, V20}
-
-abbrev pub kind_text : Kind → List ℕ
-kind_text Points = codes "PNT"
-kind_text Arcs = codes "ARC"
-kind_text Nodes = codes "NOD"
-kind_text Polygons = codes "POL"
-
-abbrev pub version_text : Version → List ℕ
-version_text V11 = codes "1.1"
-version_text V20 = codes "2.0"
+use Rattle.layout.specs.Versions.{version_text}
 
 -- a place and a length, or the refusal
 abbrev pub extent_text : Result (ℕ × ℕ) Refusal → List ℕ
 extent_text (Ok (place, n)) = decimal place ++ (codes " " ++ decimal n)
-extent_text (Err e) = codes "refused " ++ decimal (number e)
+extent_text (Err e) = refusal_text e
 
 -- a line: the number of a record, where the record lies, and where its list does
 abbrev pub line_of : ℕ → List ℕ → List ℕ → List ℕ

@@ -1,20 +1,14 @@
 -- Which words ask for which records of a file, and which fault comes for which words.
-use Rattle.std.specs.Prelude.{◌≡◌, ℕ, zero, suc, Bool, true, false, cond, not, ◌&&◌, List, [], ◌∷◌, map, is_some, Some, None, Ok, Err, string_bytes, codes, Option, Result, String, ◌==◌, slice_index_or}
+use Rattle.std.specs.Prelude.{◌≡◌, ℕ, zero, suc, Bool, true, false, cond, not, ◌&&◌, List, [], ◌∷◌, is_some, Some, None, Ok, Err, codes, Option, Result, ◌==◌, ok_or, unwrap_or}
 use Rattle.std.specs.Float.Parse.{is_float_text}
 use Rattle.std.specs.Str.{bytes_eq}
 use Rattle.boxes.specs.declared.edges.Edges.{Edges}
+use Rattle.line_words.specs.LineWords.{word}
 use Rattle.words.specs.Words.{whole_of, character_of, Decimal}
 use Rattle.record_request.specs.declared.Fault.{Fault}
 use Rattle.record_request.specs.declared.Fault.TheVariants.{Usage, Letter, Arcs, Window, NoBoxes}
 use Rattle.record_request.specs.declared.Options.{Options}
 use Rattle.record_request.specs.declared.Request.{Request}
-
-abbrev pub texts : {Z : Type 0} → List (String Z) → List (List ℕ)
-texts ws = map string_bytes ws
-
--- the word at a place, and an empty one where there is none
-abbrev pub word : List (List ℕ) → ℕ → List ℕ
-word ws k = slice_index_or ws k []
 
 -- the words of a window's bounds
 pub record Corners : Type 0 where
@@ -35,22 +29,20 @@ corners ws =
     (Some (record { minx = word ws 0; maxx = word ws 1; miny = word ws 2; maxy = word ws 3 })) None
 
 -- `--arcs` takes a whole number
-abbrev pub arcs_or_fault : Option ℕ → Result ℕ Fault
-arcs_or_fault None = Err Arcs
-arcs_or_fault (Some n) = Ok n
-
 abbrev pub arcs_option : List (List ℕ) → Result ℕ Fault
-arcs_option ws = arcs_or_fault (whole_of (word ws 0))
+arcs_option ws = ok_or (whole_of (word ws 0)) Arcs
 
-abbrev pub with_arcs : Result ℕ Fault → Result Given Fault → Result Given Fault
-with_arcs (Err f) r = Err f
-with_arcs (Ok n) (Ok g) = Ok (record { arcs = Some n; window = g.window })
-with_arcs (Ok n) (Err f) = Err f
+-- an option's value, and the options after it
+abbrev pub joined : {A : Type 0} → (A → Given → Given) → Result A Fault → Result Given Fault → Result Given Fault
+joined put (Err f) r = Err f
+joined put (Ok a) (Ok g) = Ok (put a g)
+joined put (Ok a) (Err f) = Err f
 
-abbrev pub with_window : Option Corners → Result Given Fault → Result Given Fault
-with_window None r = Err Window
-with_window (Some c) (Ok g) = Ok (record { arcs = g.arcs; window = Some c })
-with_window (Some c) (Err f) = Err f
+abbrev pub with_arcs : ℕ → Given → Given
+with_arcs n g = record { arcs = Some n; window = g.window }
+
+abbrev pub with_window : Corners → Given → Given
+with_window c g = record { arcs = g.arcs; window = Some c }
 
 -- a word is the named option, which was not given before
 abbrev pub is_new : List ℕ → List ℕ → Bool → Bool
@@ -61,8 +53,8 @@ is_new x name given = bytes_eq x name && not given
 abbrev pub options : ℕ → Bool → Bool → List (List ℕ) → Result Given Fault
 options k a w [] = Ok (record { arcs = None; window = None })
 options zero a w (x ∷ ws) =
-    cond (is_new x (codes "--arcs") a) (with_arcs (arcs_option ws) (options 1 true w ws))
-    (cond (is_new x (codes "--window") w) (with_window (corners ws) (options 4 a true ws))
+    cond (is_new x (codes "--arcs") a) (joined with_arcs (arcs_option ws) (options 1 true w ws))
+    (cond (is_new x (codes "--window") w) (joined with_window (ok_or (corners ws) Window) (options 4 a true ws))
     (Err Usage))
 options (suc k) a w (x ∷ ws) = options k a w ws
 
@@ -72,14 +64,10 @@ pub record Asked : Type 0 where
   pub arcs : ℕ
   pub window : Option Corners
 
-abbrev pub or_none : Option ℕ → ℕ
-or_none None = 0
-or_none (Some n) = n
-
 -- nodes (N) have no boxes
 abbrev pub request : ℕ → Result Given Fault → Result Asked Fault
 request c (Err f) = Err f
-request c (Ok g) = cond (c == 78 && is_some g.window) (Err NoBoxes) (Ok (record { letter = c; arcs = or_none g.arcs; window = g.window }))
+request c (Ok g) = cond (c == 78 && is_some g.window) (Err NoBoxes) (Ok (record { letter = c; arcs = unwrap_or g.arcs 0; window = g.window }))
 
 abbrev pub lettered : Option ℕ → List (List ℕ) → Result Asked Fault
 lettered None ws = Err Letter

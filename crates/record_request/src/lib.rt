@@ -1,12 +1,14 @@
 // A request for the records of a file, in the words of a command line.
 #![tactic(auto)]
 
-ghost use Rattle.std.specs.Prelude.{◌≡◌, IfOk, None, ◌≤◌, false, length, drop, is_some, Some, Ok, Result};
+ghost use Rattle.std.specs.Prelude.{◌≡◌, IfOk, IfErr, None, false, is_some, is_ok, Some};
 ghost use Rattle.std.specs.Float.Parse.{is_float_text};
 ghost use Rattle.words.specs.Words.{Decimal};
-ghost use Rattle.record_request.specs.Requests.{texts, word, arcs_option, Corners, corners, Drawn, WindowGiven, is_new, with_arcs, with_window, options, Given, Gives, request, asked, Answers};
+ghost use Rattle.line_words.specs.LineWords.{texts, word};
+ghost use Rattle.record_request.specs.Requests.{arcs_option, corners, WindowGiven, is_new, options, Gives, asked, Answers};
 
 use boxes::edges::Edges;
+use line_words::texts::{after, is, text_at};
 use std::fmt;
 use words::{character, decimal, whole};
 
@@ -43,147 +45,65 @@ impl fmt::Display for Fault {
 }
 
 // What the options of a request give.
-#[derive(Clone, Copy)]
+#[derive(Clone, Copy, Default)]
 struct Options {
     arcs: Option<u64>,
     window: Option<Edges>,
-}
-
-// The words after the first n.
-fn after(words: &[String], n: usize) -> &[String]
-    ensures rest { result.now ≡ drop n words.now }
-    ensures shorter { length result.now ≤ length words.now }
-{
-    if n < words.len() { &words[n..] } else { &[] }
-}
-
-// The word at a place, and an empty one where there is none.
-fn text_at(words: &[String], at: usize) -> &str
-    ensures { result.now ≡ word (texts words.now) at }
-{
-    match words.get(at) {
-        Some(word) => word.as_str(),
-        None => "",
-    }
 }
 
 // How many arcs the first word says.
 fn arcs_option(words: &[String]) -> Result<u64, Fault>
     ensures { result ≡ arcs_option (texts words.now) }
 {
-    match whole(text_at(words, 0)) {
-        Some(n) => Ok(n),
-        None => Err(Fault::Arcs),
-    }
+    whole(text_at(words, 0)).ok_or(Fault::Arcs)
 }
 
 // The decimal number that the word at a place says.
-fn bound(words: &[String], at: usize) -> Option<f64>
-    ensures said { Decimal (word (texts words.now) at) result }
-    ensures reads { is_some result ≡ is_float_text (word (texts words.now) at) }
+fn bound(words: &[String], at: usize) -> Result<f64, Fault>
+    ensures said { IfOk result (λ x. Decimal (word (texts words.now) at) (Some x)) }
+    ensures reads { is_ok result ≡ is_float_text (word (texts words.now) at) }
+    ensures fault { IfErr result (λ f. f ≡ Fault.Window) }
 {
-    decimal(text_at(words, at))
+    decimal(text_at(words, at)).ok_or(Fault::Window)
 }
 
 // The window that the first four words bound.
 fn window_option(words: &[String]) -> Result<Edges, Fault>
     ensures { WindowGiven (corners (texts words.now)) result }
 {
-    let Some(minx) = bound(words, 0) else {
-        return Err(Fault::Window);
-    };
-    let Some(maxx) = bound(words, 1) else {
-        return Err(Fault::Window);
-    };
-    let Some(miny) = bound(words, 2) else {
-        return Err(Fault::Window);
-    };
-    let Some(maxy) = bound(words, 3) else {
-        return Err(Fault::Window);
-    };
     Ok(Edges {
-        minx,
-        maxx,
-        miny,
-        maxy,
+        minx: bound(words, 0)?,
+        maxx: bound(words, 1)?,
+        miny: bound(words, 2)?,
+        maxy: bound(words, 3)?,
     })
 }
 
 // Whether a word is the named option, which was not given before.
-fn is_new(word: &str, name: &str, given: bool) -> bool
-    ensures { result ≡ is_new word.now name.now given }
+fn is_new<A: Copy>(word: &str, name: &str, before: Option<A>) -> bool
+    ensures { result ≡ is_new word.now name.now (is_some before) }
 {
-    word == name && !given
+    is(word, name) && before.is_none()
 }
 
-// The options with the arcs that come before them.
-fn with_arcs(arcs: u64, more: Result<Options, Fault>) -> Result<Options, Fault>
-    ensures { (m : Result Given Fault) → Gives m more → Gives (with_arcs (Ok arcs) m) result }
+// What the options give.
+fn read_options(words: &[String]) -> Result<Options, Fault>
+    ensures { Gives (options 0 false false (texts words.now)) result }
 {
-    match more {
-        Ok(options) => Ok(Options {
-            arcs: Some(arcs),
-            window: options.window,
-        }),
-        Err(fault) => Err(fault),
-    }
-}
-
-// The options with the window that comes before them.
-fn with_window(window: Edges, more: Result<Options, Fault>) -> Result<Options, Fault>
-    ensures { (c : Corners) (m : Result Given Fault) → Drawn c window → Gives m more → Gives (with_window (Some c) m) result }
-{
-    match more {
-        Ok(options) => Ok(Options {
-            arcs: options.arcs,
-            window: Some(window),
-        }),
-        Err(fault) => Err(fault),
-    }
-}
-
-// What the options give, where some were given before.
-fn read_options(words: &[String], arcs_given: bool, window_given: bool) -> Result<Options, Fault>
-    ensures { Gives (options 0 arcs_given window_given (texts words.now)) result }
-{
-    let Some((word, rest)) = words.split_first() else {
-        return Ok(Options {
-            arcs: None,
-            window: None,
-        });
-    };
-    if is_new(word.as_str(), "--arcs", arcs_given) {
-        return match arcs_option(rest) {
-            Ok(n) => with_arcs(n, read_options(after(rest, 1), true, window_given)),
-            Err(fault) => Err(fault),
-        };
-    }
-    if is_new(word.as_str(), "--window", window_given) {
-        return match window_option(rest) {
-            Ok(edges) => with_window(edges, read_options(after(rest, 4), arcs_given, true)),
-            Err(fault) => Err(fault),
-        };
-    }
-    Err(Fault::Usage)
-}
-
-// The request of a letter and options.
-fn request_of(letter: char, given: Result<Options, Fault>) -> Result<Request, Fault>
-    ensures { (g : Result Given Fault) → Gives g given → Answers (request letter g) result }
-{
-    match given {
-        Ok(options) => {
-            if letter == 'N' && options.window.is_some() {
-                return Err(Fault::NoBoxes);
-            }
-            Ok(Request {
-                letter,
-                arcs: options.arcs.unwrap_or(0),
-                window: options.window,
-            })
+    let mut given = Options::default();
+    let mut rest = words;
+    while let Some((word, values)) = rest.split_first() {
+        if is_new(word.as_str(), "--arcs", given.arcs) {
+            given.arcs = Some(arcs_option(values)?);
+            rest = after(values, 1);
+        } else if is_new(word.as_str(), "--window", given.window) {
+            given.window = Some(window_option(values)?);
+            rest = after(values, 4);
+        } else {
+            return Err(Fault::Usage);
         }
-        Err(fault) => Err(fault),
     }
+    Ok(given)
 }
 
 /// The request that the words after the program's name make: a letter, a file, and options in any order, each at most once.
@@ -194,14 +114,17 @@ pub fn read_request(words: &[String]) -> Result<Request, Fault>
     ensures nodes { IfOk result (λ q. q.letter ≡ 78 → q.window ≡ None) }
     ensures answers { Answers (asked (texts words.now)) result }
 {
-    let Some((letter, others)) = words.split_first() else {
+    let [letter, _, rest @ ..] = words else {
         return Err(Fault::Usage);
     };
-    let Some((_, rest)) = others.split_first() else {
-        return Err(Fault::Usage);
-    };
-    match character(letter.as_str()) {
-        Some(c) => request_of(c, read_options(rest, false, false)),
-        None => Err(Fault::Letter),
+    let letter = character(letter.as_str()).ok_or(Fault::Letter)?;
+    let given = read_options(rest)?;
+    if letter == 'N' && given.window.is_some() {
+        return Err(Fault::NoBoxes);
     }
+    Ok(Request {
+        letter,
+        arcs: given.arcs.unwrap_or(0),
+        window: given.window,
+    })
 }

@@ -1,43 +1,24 @@
 // Answers every request of the file `cases`, one to a line, as sheet_records does, and prints each after its request.
 #![tactic(auto)]
 
-use record_answer::answer::Answer;
-use record_answer::answers::answer;
-use record_request::read_request;
+use record_answer::unanswered::Unanswered;
+use record_reply::{Failure, reply};
+use std::alloc::AllocError;
 use std::fs;
 
 // One request and its answer.
 fn one_case(rt: &HostRuntime, line: &str) -> anyhow::Result<()> {
-    let heap = rt.alloc();
     println!(rt; "> {line}")?;
+    let heap = rt.alloc();
     let mut words = Vec::new(heap);
     for word in line.split(' ') {
         words.push(String::from_str(heap, word)?)?;
     }
-    let asked = match read_request(words.as_slice()) {
-        Ok(r) => r,
-        Err(f) => {
-            println!(rt; "{f}")?;
-            return Ok(());
-        }
-    };
-    let Some(path) = words.get(1) else {
-        return Ok(());
-    };
-    let file = fs::read(rt, path.as_str())?;
-    match answer(
-        heap,
-        asked.letter,
-        file.as_slice(),
-        asked.arcs,
-        asked.window,
-    )? {
-        Answer::Text(text) => print!(rt; "{text}")?,
-        Answer::Refused(e) => {
-            let number = e.number();
-            println!(rt; "refused {number}")?
-        }
-        Answer::NoBoxes => println!(rt; "no boxes")?,
+    match reply(rt, words.as_slice()) {
+        Ok(text) => print!(rt; "{text}")?,
+        Err(Failure::Unread(_, e)) => return Err(e.into()),
+        Err(Failure::Unanswered(Unanswered::NoMemory)) => return Err(AllocError.into()),
+        Err(e) => println!(rt; "{e}")?,
     }
     Ok(())
 }

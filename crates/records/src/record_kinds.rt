@@ -14,6 +14,7 @@ use refusal::Refusal;
 pub trait RecordKind {
     ghost kind: { Kind };
 
+    // Stays: a constant would need a ghost member of its value beside it in each kind too.
     /// The kind of file that has such records.
     fn kind() -> Kind
         ensures { result ≡ kind };
@@ -86,6 +87,7 @@ impl BoxedKind for Points {
     }
 }
 
+// Stays: one impl for arcs and polygons over a trait of the kinds with a stored box needs that trait, and an impl with the law for each of the two.
 impl BoxedKind for Arcs {
     ghost extent = { 32 };
 

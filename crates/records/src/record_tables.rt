@@ -1,7 +1,6 @@
 ghost use Rattle.std.specs.Prelude.{◌≡◌, ℕ, ◌+◌, ◌*◌, ◌<◌, ◌≤◌, length, Ok};
 ghost use Rattle.kinds.specs.Sizes.{record_size};
 ghost use Rattle.layout.specs.Versions.{width};
-ghost use Rattle.editions.specs.Numbers.{number_at};
 ghost use Rattle.records.specs.Parts.{record_outcome, list_outcome, list_start, entries};
 ghost use Rattle.tables.specs.Handing.{Handed};
 ghost use Rattle.records.specs.Boxing.{box_outcome};
@@ -13,20 +12,11 @@ use super::shape::Shape;
 use boxes::bounds::Bounds;
 use kinds::kind::Kind;
 use layout::version::Version;
+use media::runs::array_at;
 use refusal::Refusal;
 use std::marker::PhantomData;
 use tables::part::Part;
 use tables::tables::{BoxedTable, RecordTable};
-
-// The number of two bytes that stands at a place.
-fn short_number(file: &[u8], at: usize) -> usize
-    requires { at + 2 ≤ length file.now }
-    ensures { result ≡ number_at 2 file.now at }
-{
-    let mut raw = [0u8; 2];
-    raw.copy_from_slice(&file[at..at + 2]);
-    u16::from_le_bytes(raw) as usize
-}
 
 // Where the list of the record at a place begins, and how many entries it has.
 fn list_head(
@@ -39,24 +29,22 @@ fn list_head(
     ensures { result ≡ Ok (list_start kind (width version) file.now at, entries kind (width version) file.now at) }
 {
     let w = version.sizes().number;
-    match kind {
-        Kind::Points => Ok((0, 0)),
-        Kind::Arcs => {
-            let count = version.number(file, at + 32)?;
-            let place = version.number(file, at + (32 + w))?;
-            Ok((place as usize, count as usize))
-        }
-        Kind::Nodes => {
-            let count = short_number(file, at);
-            let place = version.number(file, at + 4)?;
-            Ok((place as usize, count))
-        }
-        Kind::Polygons => {
-            let count = version.number(file, at + 32)?;
-            let place = version.number(file, at + (32 + 3 * w))?;
-            Ok((place as usize, count as usize))
-        }
-    }
+    let (place, count) = match kind {
+        Kind::Points => (0, 0),
+        Kind::Arcs => (
+            version.number(file, at + (32 + w))?,
+            version.number(file, at + 32)?,
+        ),
+        Kind::Nodes => (
+            version.number(file, at + 4)?,
+            u16::from_le_bytes(array_at(file, at)?).into(),
+        ),
+        Kind::Polygons => (
+            version.number(file, at + (32 + 3 * w))?,
+            version.number(file, at + 32)?,
+        ),
+    };
+    Ok((place as usize, count as usize))
 }
 
 impl<'a, K: RecordKind> Records<'a, K> {

@@ -1,5 +1,5 @@
--- The number of each refusal.
-use Rattle.std.specs.Prelude.{ℕ}
+-- The number of each refusal, and how it is told.
+use Rattle.std.specs.Prelude.{ℕ, List, ◌++◌, codes, decimal}
 use Rattle.refusal.specs.declared.Refusal.{Refusal}
 use Rattle.refusal.specs.declared.Refusal.TheVariants.{PastEnd, NoSuchPage, PageTwice, OtherKind, OtherVersion, UnsupportedFlags, CountOutOfRange, VertexCountOutOfRange, NotFinite, UnfitBox, NoSuchNode, EndsApart, NodeListDiffers, NoSuchPolygon, UnfitEntry, RingNotClosed, PolygonWithoutRing, SideInNoRing, NodeNeedsTwoTurns, NoSuchElement, UnfitRun, NoRoom, ArcNotClosedAlone, PolygonLosesLastRing, NotInsideArc, NotTwoEndsOfTwoArcs, SidesInTwoRings, RunEndsElsewhere, SidesShareRing, RingsAlone, DoesNotFit}
 
@@ -35,3 +35,7 @@ number RunEndsElsewhere = 28
 number SidesShareRing = 29
 number RingsAlone = 30
 number DoesNotFit = 31
+
+-- as programs tell it: refused 20
+abbrev pub refusal_text : Refusal → List ℕ
+refusal_text e = codes "refused " ++ decimal (number e)

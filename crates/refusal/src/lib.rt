@@ -1,74 +1,77 @@
 // The closed list of refusals. Each is named by what is wrong, and carries its number.
 #![tactic(auto)]
 
-ghost use Rattle.std.specs.Prelude.{◌≡◌};
-ghost use Rattle.refusal.specs.Numbers.{number};
+ghost use Rattle.std.specs.Prelude.{◌≡◌, Some};
+ghost use Rattle.refusal.specs.Numbers.{number, refusal_text};
+
+use std::error::Error;
+use std::fmt;
 
 /// Why a call was refused.
 #[derive(Clone, Copy, PartialEq, Eq, Debug)]
 pub enum Refusal {
     /// A run of bytes passes the end of a file or medium.
-    PastEnd,
+    PastEnd = 1,
     /// A page number is above 127.
-    NoSuchPage,
+    NoSuchPage = 2,
     /// A page stands twice in a page list.
-    PageTwice,
+    PageTwice = 3,
     /// A file is of another kind than the one asked for.
-    OtherKind,
+    OtherKind = 4,
     /// A version is neither 1.1 nor 2.0, or another than the set's.
-    OtherVersion,
+    OtherVersion = 5,
     /// A flag says that the file is three-dimensional, explicit, unverified or unfinished.
-    UnsupportedFlags,
+    UnsupportedFlags = 6,
     /// An element count is beyond what the sheet or the room allows.
-    CountOutOfRange,
+    CountOutOfRange = 7,
     /// An arc has fewer than two vertices, or more than are free.
-    VertexCountOutOfRange,
+    VertexCountOutOfRange = 8,
     /// A coordinate or a bound is not finite.
-    NotFinite,
+    NotFinite = 9,
     /// A box is not finite and in order, or leaves out a vertex.
-    UnfitBox,
+    UnfitBox = 10,
     /// An arc names a node that there is not.
-    NoSuchNode,
+    NoSuchNode = 11,
     /// Two arc ends at one node lie at different places.
-    EndsApart,
+    EndsApart = 12,
     /// A node's list is not the arcs that end there, once each.
-    NodeListDiffers,
+    NodeListDiffers = 13,
     /// A side names a polygon that there is not.
-    NoSuchPolygon,
+    NoSuchPolygon = 14,
     /// An entry names no arc, a side listed before, or another polygon's side.
-    UnfitEntry,
+    UnfitEntry = 15,
     /// The neighbours in a ring do not meet, or a ring does not end.
-    RingNotClosed,
+    RingNotClosed = 16,
     /// A polygon other than 0 has no entry.
-    PolygonWithoutRing,
+    PolygonWithoutRing = 17,
     /// A side stands in no ring.
-    SideInNoRing,
+    SideInNoRing = 18,
     /// A node's ends need two turns.
-    NodeNeedsTwoTurns,
+    NodeNeedsTwoTurns = 19,
     /// There is no such record, arc, node, side, polygon, ring or vertex.
-    NoSuchElement,
+    NoSuchElement = 20,
     /// A run has too few vertices, ends apart, or a coordinate that is not finite.
-    UnfitRun,
+    UnfitRun = 21,
     /// There is no room for the arc or for the vertices.
-    NoRoom,
+    NoRoom = 22,
     /// The arc is not closed at a node of its own.
-    ArcNotClosedAlone,
+    ArcNotClosedAlone = 23,
     /// A polygon other than 0 would be left with no ring.
-    PolygonLosesLastRing,
+    PolygonLosesLastRing = 24,
     /// The vertex is not inside the arc.
-    NotInsideArc,
+    NotInsideArc = 25,
     /// The node is not where just two ends, of two arcs, lie.
-    NotTwoEndsOfTwoArcs,
+    NotTwoEndsOfTwoArcs = 26,
     /// The two sides stand in two rings.
-    SidesInTwoRings,
+    SidesInTwoRings = 27,
     /// The run ends elsewhere than the sides begin.
-    RunEndsElsewhere,
+    RunEndsElsewhere = 28,
     /// Both sides of the arc stand in one ring.
-    SidesShareRing,
+    SidesShareRing = 29,
     /// Each side of the arc is a ring alone.
-    RingsAlone,
+    RingsAlone = 30,
     /// What is to be written is larger than the place for it.
-    DoesNotFit,
+    DoesNotFit = 31,
 }
 
 impl Refusal {
@@ -76,38 +79,17 @@ impl Refusal {
     pub fn number(self) -> u8
         ensures { result ≡ number self }
     {
-        match self {
-            Refusal::PastEnd => 1,
-            Refusal::NoSuchPage => 2,
-            Refusal::PageTwice => 3,
-            Refusal::OtherKind => 4,
-            Refusal::OtherVersion => 5,
-            Refusal::UnsupportedFlags => 6,
-            Refusal::CountOutOfRange => 7,
-            Refusal::VertexCountOutOfRange => 8,
-            Refusal::NotFinite => 9,
-            Refusal::UnfitBox => 10,
-            Refusal::NoSuchNode => 11,
-            Refusal::EndsApart => 12,
-            Refusal::NodeListDiffers => 13,
-            Refusal::NoSuchPolygon => 14,
-            Refusal::UnfitEntry => 15,
-            Refusal::RingNotClosed => 16,
-            Refusal::PolygonWithoutRing => 17,
-            Refusal::SideInNoRing => 18,
-            Refusal::NodeNeedsTwoTurns => 19,
-            Refusal::NoSuchElement => 20,
-            Refusal::UnfitRun => 21,
-            Refusal::NoRoom => 22,
-            Refusal::ArcNotClosedAlone => 23,
-            Refusal::PolygonLosesLastRing => 24,
-            Refusal::NotInsideArc => 25,
-            Refusal::NotTwoEndsOfTwoArcs => 26,
-            Refusal::SidesInTwoRings => 27,
-            Refusal::RunEndsElsewhere => 28,
-            Refusal::SidesShareRing => 29,
-            Refusal::RingsAlone => 30,
-            Refusal::DoesNotFit => 31,
-        }
+        self as u8
     }
 }
+
+impl fmt::Display for Refusal {
+    ghost output = { λ e. Some (refusal_text e) };
+
+    fn fmt<W: fmt::Write>(&self, f: &mut fmt::Formatter<W>) -> fmt::Result {
+        let number = self.number();
+        write!(f, "refused {number}")
+    }
+}
+
+impl Error for Refusal {}

@@ -1,3 +1,1 @@
 pub mod MetLaws
-pub mod CountLaws
-pub mod RowLaws

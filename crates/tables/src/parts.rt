@@ -3,6 +3,7 @@ ghost use Rattle.tables.specs.Extents.{part_outcome};
 ghost use Rattle.tables.specs.Handing.{Handed};
 
 use super::part::Part;
+use media::runs::bytes_at;
 use refusal::Refusal;
 
 // Whether the k-th of the parts of a size that follow one another from `at` on ends within `len`. The quotient is one that a loop over the rows takes once.
@@ -18,15 +19,8 @@ impl<'a> Part<'a> {
     pub fn of(file: &'a [u8], at: usize, len: usize) -> Result<Part<'a>, Refusal>
         ensures { Handed file.now (part_outcome file.now at len) result }
     {
-        let size = file.len();
-        if at > size || len > size - at {
-            return Err(Refusal::PastEnd);
-        }
-        let end = at + len;
-        Ok(Part {
-            bytes: &file[at..end],
-            place: at,
-        })
+        let bytes = bytes_at(file, at, len)?;
+        Ok(Part { bytes, place: at })
     }
 
     /// The k-th of the parts of `size` bytes that follow one another from `at` on. 1 when it passes the end.
@@ -57,9 +51,7 @@ impl<'a> Part<'a> {
     ) -> Result<Part<'a>, Refusal>
         ensures { Handed file.now (part_outcome file.now at (count * size)) result }
     {
-        let Some(len) = count.checked_mul(size) else {
-            return Err(Refusal::PastEnd);
-        };
+        let len = count.checked_mul(size).ok_or(Refusal::PastEnd)?;
         Part::of(file, at, len)
     }
 }

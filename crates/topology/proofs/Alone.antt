@@ -1,6 +1,6 @@
 -- When an arc is closed at a node of its own, and when another ring stands under the polygons of its sides.
-use Rattle.std.proofs.Common.{◌≡◌, ℕ, zero, suc, ◌+◌, ◌/◌, ◌%◌, ◌<◌, ◌≤◌, Bool, true, false, not, ◌&&◌, ◌||◌, eqb, ◌⊎◌, List, length, get_or, take, sym, refl, ap, ◌∙◌, inl, inr, add-one, arith}
-use Rattle.std.proofs.lemmas.Bool.{cases_eq, cases_Bool, eq-eqb, ne_eqb, eqb-true, and_parts, and_from, and_left, and_right, or_cases, or_left, or_right, or_from, not_from_true, not_from_false, both_ways}
+use Rattle.std.proofs.Common.{◌≡◌, ℕ, zero, suc, ◌+◌, ◌/◌, ◌%◌, ◌<◌, Bool, true, false, not, ◌&&◌, ◌||◌, eqb, ◌⊎◌, List, length, sym, refl, ap, ◌∙◌, inl, inr, arith}
+use Rattle.std.proofs.lemmas.Bool.{cases_eq, cases_Bool, eq-eqb, ne_eqb, eqb-true, and_parts, and_from, and_left, and_right, or_cases, or_left, or_right, not_from_true, not_from_false, both_ways}
 use Rattle.rings.specs.Law.{turn}
 use Rattle.rings.specs.Circles.{rings}
 use Rattle.rings.proofs.Ringed.{ringed_circles}
@@ -8,11 +8,10 @@ use Rattle.rings.proofs.Closed.{within}
 use Rattle.rings.proofs.OwnNode.{alone_closed, alone_own, own_turned, own_unturned}
 use Rattle.topology.specs.declared.side.Side.{Side}
 use Rattle.topology.specs.declared.vertex.Vertex.{Vertex}
-use Rattle.topology.specs.Rows.{no_side, next_of, node_of, polygon_of}
+use Rattle.topology.specs.Rows.{next_of, node_of, polygon_of}
 use Rattle.topology.specs.Lawfuls.{Lawful}
-use Rattle.topology.specs.Lifts.{no_other_begins, closed_alone, other_under, ring_left}
-use Rattle.topology.specs.Renumbered.{lower}
-use Rattle.topology.proofs.InUse.{in_use, long}
+use Rattle.topology.specs.Lifts.{no_other_begins, closed_alone, other_under}
+use Rattle.topology.specs.Dissolves.{both_alone}
 
 pub no_other_at : (us : List Side) (a k : ℕ) → no_other_begins us a k ≡ true → (s : ℕ) → s < k → node_of us s ≡ node_of us (a + a) → s / 2 ≡ a
 no_other_at us a zero h s l e = absurd (omega arith)
@@ -79,13 +78,6 @@ other_found us a p q k (suc n) l h =
       | inr ne ↦ or_left (other_under us a p q n) (other_test us a p q n) (other_found us a p q k n (omega arith) h)
     ]
 
-pub other_none : (us : List Side) (a p q k : ℕ) → other_under us a p q k ≡ false → other_test us a p q k ≡ false → other_under us a p q (k + 1) ≡ false
-other_none us a p q k h t = ap (other_under us a p q) (add-one k) ∙ or_from (other_under us a p q k) (other_test us a p q k) h t
-
-pub other_read : (rows : List Side) (n a p q s : ℕ) → s < n →
-    (not (eqb (s / 2) a) && (eqb (get_or rows s no_side).polygon p || eqb (get_or rows s no_side).polygon q)) ≡ other_test (take n rows) a p q s
-other_read rows n a p q s l = ap (λ (r : Side). not (eqb (s / 2) a) && (eqb r.polygon p || eqb r.polygon q)) (in_use rows n s no_side l)
-
 of_arc : (k a : ℕ) → k / 2 ≡ a → (k ≡ a + a) ⊎ (k ≡ a + a + 1)
 of_arc k a e = elim (cases_eq (k % 2) 0) [ inl x ↦ inl (omega arith) | inr y ↦ inr (omega arith) ]
 
@@ -111,7 +103,7 @@ module _ (us : List Side) (vs : List Vertex) (n nodes polygons a : ℕ) (so-long
       (eq-eqb (node_of us (a + a)) (node_of us (a + a + 1)) (alone_closed (next_of us) (node_of us) n nodes a l L.in_turns L.rings_close L.one_turn e0 e1))
       (no_other_from us a (length us) (λ s ls e. arc_of s a (alone_own (next_of us) (node_of us) n nodes a l L.in_turns L.rings_close L.one_turn e0 e1 s (omega arith) e)))
 
-  pub alone_told : closed_alone us a ≡ (eqb (next_of us (a + a)) (a + a) && eqb (next_of us (a + a + 1)) (a + a + 1))
+  pub alone_told : closed_alone us a ≡ both_alone us a
   alone_told =
       elim (cases_Bool (closed_alone us a)) [
         | inl t ↦
@@ -128,22 +120,3 @@ module _ (us : List Side) (vs : List Vertex) (n nodes polygons a : ℕ) (so-long
               | inr nx ↦ sym (and_left (eqb (next_of us (a + a)) (a + a)) (eqb (next_of us (a + a + 1)) (a + a + 1)) (ne_eqb (next_of us (a + a)) (a + a) nx))
             ]
       ]
-
--- the same, read through the whole table
-pub alone_read : (rows : List Side) (vs : List Vertex) (u n nodes polygons a : ℕ) → length (take u rows) ≡ n → Lawful (take u rows) vs n nodes polygons → a + a + 1 < n → n ≤ u →
-    closed_alone (take u rows) a ≡ (eqb (get_or rows (a + a) no_side).next (a + a) && eqb (get_or rows (a + a + 1) no_side).next (a + a + 1))
-alone_read rows vs u n nodes polygons a long L l few =
-    alone_told (take u rows) vs n nodes polygons a long L l
-    ∙ (ap (λ (r : Side). eqb r.next (a + a) && eqb (next_of (take u rows) (a + a + 1)) (a + a + 1)) (sym (in_use rows u (a + a) no_side (omega arith)))
-    ∙ ap (λ (r : Side). eqb (get_or rows (a + a) no_side).next (a + a) && eqb r.next (a + a + 1)) (sym (in_use rows u (a + a + 1) no_side (omega arith))))
-
--- whether a ring is left, with the polygons read through the whole table
-pub left_read : (rows : List Side) (u a : ℕ) → u ≤ length rows → a + a + 1 < u →
-    ring_left (take u rows) a ≡ (eqb (lower (get_or rows (a + a) no_side).polygon (get_or rows (a + a + 1) no_side).polygon) 0
-    || other_under (take u rows) a (get_or rows (a + a) no_side).polygon (get_or rows (a + a + 1) no_side).polygon u)
-left_read rows u a h l =
-    let us = take u rows in
-    let R : ℕ → ℕ → ℕ → Bool = λ p q n. eqb (lower p q) 0 || other_under us a p q n in
-    ap (λ (n : ℕ). R (polygon_of us (a + a)) (polygon_of us (a + a + 1)) n) (long rows u h)
-    ∙ (ap (λ (r : Side). R r.polygon (polygon_of us (a + a + 1)) u) (sym (in_use rows u (a + a) no_side (omega arith)))
-    ∙ ap (λ (r : Side). R (get_or rows (a + a) no_side).polygon r.polygon u) (sym (in_use rows u (a + a + 1) no_side (omega arith))))

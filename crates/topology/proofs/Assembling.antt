@@ -1,6 +1,6 @@
--- What an edit has done, once its tables and counts are assembled to a map.
-use Rattle.std.proofs.Common.{◌≡◌, ℕ, List, length, take, drop, Ok, Result, sym, refl, ap, ◌∙◌, subst}
-use Rattle.refusal.specs.declared.Refusal.{Refusal}
+-- The law of a map as the law of its state, the state of two tables, and the room that they have.
+use Rattle.std.proofs.Common.{◌≡◌, ℕ, ◌+◌, ◌≤◌, true, ◌&&◌, leb, List, length, take, sym, refl, subst}
+use Rattle.std.proofs.lemmas.Bool.{and_parts, leb-true}
 use Rattle.topology.specs.declared.side.Side.{Side}
 use Rattle.topology.specs.declared.vertex.Vertex.{Vertex}
 use Rattle.topology.specs.declared.hand.Hand.{Hand}
@@ -8,7 +8,7 @@ use Rattle.topology.specs.declared.table.Table.{Table}
 use Rattle.topology.specs.declared.map.Map.{Map}
 use Rattle.topology.specs.States.{State, state_of}
 use Rattle.topology.specs.Lawfuls.{Lawful}
-use Rattle.topology.specs.Edited.{Assembled, Done}
+use Rattle.topology.specs.Islands.{arc_room, vertex_room}
 use Rattle.topology.proofs.InUse.{long}
 
 pub lawful_at : {us us' : List Side} {vs vs' : List Vertex} {n n' : ℕ} (nodes polygons : ℕ) → us ≡ us' → vs ≡ vs' → n ≡ n' → Lawful us vs n nodes polygons → Lawful us' vs' n' nodes polygons
@@ -19,26 +19,7 @@ lawful_at {us = us} {us' = us'} {vs = vs} {vs' = vs'} {n = n} nodes polygons d e
 -- the law of a map, from its type
 pub lawful_of : (m : Map) → Lawful (state_of m).sides (state_of m).vertices (length (state_of m).sides) m.nodes m.polygons
 lawful_of m =
-    lawful_at {us = (state_of m).sides} {vs = (state_of m).vertices} m.nodes m.polygons refl refl (sym (long m.sides.rows.now m.sides.used m.sides_fit))
-    (record {
-      paired = m.paired;
-      polygon_zero = m.polygon_zero;
-      polygons_few = m.polygons_few;
-      nodes_few = m.nodes_few;
-      in_rings = m.in_rings;
-      in_turns = m.in_turns;
-      rings_close = m.rings_close;
-      one_polygon = m.one_polygon;
-      one_turn = m.one_turn;
-      polygons_known = m.polygons_known;
-      polygons_have_rings = m.polygons_have_rings;
-      ends_together = m.ends_together;
-      all_finite = m.all_finite;
-      runs_stand = m.runs_stand;
-      low_along = m.low_along;
-      low_below = m.low_below;
-      low_names = m.low_names;
-    })
+    lawful_at {us = (state_of m).sides} {vs = (state_of m).vertices} m.nodes m.polygons refl refl (sym (long m.sides.rows.now m.sides.used m.sides.fits)) m.law
 
 -- the state of two tables
 abbrev pub state_from : Hand → Table Side → Table Vertex → ℕ → ℕ → State
@@ -52,26 +33,14 @@ state_from hand s v nodes polygons = record {
   vertex_rows = length v.rows.now;
 }
 
-module _ (hand : Hand) (s : Table Side) (v : Table Vertex) (nodes polygons : ℕ) (r : Map) (A : Assembled hand s v nodes polygons r) where
-  pub assembled_state : state_of r ≡ state_from hand s v nodes polygons
-  assembled_state =
-      ap (λ (h : Hand). state_from h r.sides r.vertices r.nodes r.polygons) A.same_hand
-      ∙ (ap (λ (t : Table Side). state_from hand t r.vertices r.nodes r.polygons) A.same_sides
-      ∙ (ap (λ (t : Table Vertex). state_from hand s t r.nodes r.polygons) A.same_vertices
-      ∙ (ap (λ (k : ℕ). state_from hand s v k r.polygons) A.same_nodes ∙ ap (state_from hand s v nodes) A.same_polygons)))
-
-  -- the tables are the same ones, and the free rows stay
-  module _ (f : State → Result State Refusal) (m : Map) (agrees : Ok (state_from hand s v nodes polygons) ≡ f (state_of m))
-      (free_sides : drop s.used s.rows.now ≡ drop s.used m.sides.rows.now)
-      (free_vertices : drop v.used v.rows.now ≡ drop v.used m.vertices.rows.now)
-      (sides_lent : s.rows.ghost_name ≡ m.sides.rows.ghost_name) (vertices_lent : v.rows.ghost_name ≡ m.vertices.rows.ghost_name) where
-    pub assembled_done : Done f m r
-    assembled_done = record {
-      agrees = ap Ok assembled_state ∙ agrees;
-      keeps = (
-        subst (λ (t : Table Side). drop t.used t.rows.now ≡ drop t.used m.sides.rows.now) (sym A.same_sides) free_sides,
-        subst (λ (t : Table Vertex). drop t.used t.rows.now ≡ drop t.used m.vertices.rows.now) (sym A.same_vertices) free_vertices,
-      );
-      sides_lent = ap (λ (t : Table Side). t.rows.ghost_name) A.same_sides ∙ sides_lent;
-      vertices_lent = ap (λ (t : Table Vertex). t.rows.ghost_name) A.same_vertices ∙ vertices_lent;
-    }
+-- the room for an arc of k vertices
+pub room_told : (m : Map) (k : ℕ) → (arc_room (state_of m) && vertex_room (state_of m) k) ≡ true →
+    (length (state_of m).sides + 2 ≤ length m.sides.rows.now) × (length (state_of m).sides + 2 ≤ 32768)
+    × (length (state_of m).vertices + k ≤ length m.vertices.rows.now) × (length (state_of m).vertices + k ≤ 1048576)
+room_told m k room =
+    let n = length (state_of m).sides in
+    let v = length (state_of m).vertices in
+    let (x, y) = and_parts (arc_room (state_of m)) (vertex_room (state_of m) k) room in
+    let (c, d) = and_parts (leb (n + 2) (length m.sides.rows.now)) (leb (n + 2) 32768) x in
+    let (e, g) = and_parts (leb (v + k) (length m.vertices.rows.now)) (leb (v + k) 1048576) y in
+    (leb-true _ _ c, leb-true _ _ d, leb-true _ _ e, leb-true _ _ g)

@@ -1,5 +1,5 @@
 -- A map whose table of sides has lost those of an arc between two rings.
-use Rattle.std.proofs.Common.{◌≡◌, ℕ, suc, ◌+◌, ◌-◌, ◌/◌, ◌<◌, ◌≤◌, Bool, false, cond, ◌&&◌, ◌||◌, eqb, ltb, List, map, length, get_or, take, drop, set, Ok, Err, sym, refl, ap, ◌∙◌, subst, arith}
+use Rattle.std.proofs.Common.{◌≡◌, ℕ, suc, ◌+◌, ◌-◌, ◌/◌, ◌<◌, ◌≤◌, false, ◌&&◌, ◌||◌, ltb, List, map, length, get_or, take, drop, set, Ok, Err, sym, refl, ap, ◌∙◌, subst, arith}
 use Rattle.std.proofs.lemmas.Bool.{lt-ltb, cond-true, cond-false}
 use Rattle.refusal.specs.declared.Refusal.TheVariants.{NoSuchElement, SidesShareRing, RingsAlone}
 use Rattle.rings.specs.Circles.{rings, meets}
@@ -9,32 +9,29 @@ use Rattle.topology.specs.declared.vertex.Vertex.{Vertex}
 use Rattle.topology.specs.declared.table.Table.{Table}
 use Rattle.topology.specs.declared.map.Map.{Map}
 use Rattle.topology.specs.declared.renumbering.Renumbering.{Renumbering}
-use Rattle.topology.specs.Rows.{no_side, next_of, polygon_of}
+use Rattle.topology.specs.Rows.{no_side, next_of}
 use Rattle.topology.specs.States.{State, state_of}
-use Rattle.topology.specs.Tables.{Shrunk}
+use Rattle.topology.specs.Tables.{Holds}
 use Rattle.topology.specs.Lawfuls.{Lawful}
-use Rattle.topology.specs.Edited.{Fits}
 use Rattle.topology.specs.Questions.{arc_count, Rises}
-use Rattle.topology.specs.Renumbered.{lower, higher, renumbered}
+use Rattle.topology.specs.Renumbered.{renumbered}
 use Rattle.topology.specs.Lifts.{lift_numbers, rows_without, lifted_sides, polygons_left, lifted}
-use Rattle.topology.specs.Dissolves.{share_ring, both_alone, freed, set_free, dissolve_outcome, RingsMerged, Replaced, PutBack}
-use Rattle.std.proofs.lemmas.Bool.Decides.{nat_tests}
-use Rattle.std.proofs.lemmas.List.{drop-drop}
+use Rattle.topology.specs.Dissolves.{share_ring, both_alone, freed, set_free, dissolve_outcome, RingsMerged, PutBack}
+use Rattle.std.proofs.lemmas.List.{drop-drop, length-set, length-map}
 use Rattle.topology.proofs.InUse.{long}
 use Rattle.topology.proofs.FreedRows.{back_rows, back_long, back_rest}
+use Rattle.topology.proofs.Growth.{held_used}
+use Rattle.topology.proofs.Shrinking.{removed_used}
 use Rattle.topology.proofs.Assembling.{lawful_at, lawful_of, state_from}
 use Rattle.topology.proofs.DissolveLaw.{dissolve_lawful, dissolve_rings, dissolve_meets, node_room}
 
-one_polygon : (p q : ℕ) → eqb (higher p q) (lower p q) ≡ eqb p q
-one_polygon p q = grind (arith, nat_tests)
+free_long : (us : List Side) (node a : ℕ) → length (freed us node a) ≡ length us
+free_long us node a = simp (length-set, length-map) refl
 
--- how many polygons are left, as the numbers tell it
-pub left_told : (us us' : List Side) (c : Renumbering) (nodes polygons a left : ℕ) → us ≡ us' → c ≡ lift_numbers us nodes polygons a →
-    left ≡ cond (eqb c.polygon c.into) polygons (polygons - 1) → left ≡ polygons_left us' polygons a
-left_told us us' c nodes polygons a left e d h =
-    h
-    ∙ (ap (λ (r : Renumbering). cond (eqb r.polygon r.into) polygons (polygons - 1)) d
-    ∙ (ap (λ (b : Bool). cond b polygons (polygons - 1)) (one_polygon (polygon_of us (a + a)) (polygon_of us (a + a + 1))) ∙ ap (λ (xs : List Side). polygons_left xs polygons a) e))
+pub free_used : (m : Map) (a : ℕ) (t : Table Side) → Holds m.sides t (freed (state_of m).sides m.nodes a) → t.used ≡ m.sides.used
+free_used m a t free =
+    held_used m.sides t (freed (state_of m).sides m.nodes a) free
+    ∙ (free_long (state_of m).sides m.nodes a ∙ long m.sides.rows.now m.sides.used m.sides.fits)
 
 module _ (m : Map) (a : ℕ) (here : a < arc_count (state_of m)) (apart : share_ring (state_of m).sides a ≡ false) (some : both_alone (state_of m).sides a ≡ false) where
   abbrev us : List Side
@@ -53,7 +50,7 @@ module _ (m : Map) (a : ℕ) (here : a < arc_count (state_of m)) (apart : share_
   z = length us / 2 - 1
 
   pub sides_long : length us ≡ m.sides.used
-  sides_long = long m.sides.rows.now m.sides.used m.sides_fit
+  sides_long = long m.sides.rows.now m.sides.used m.sides.fits
 
   two_more : length us ≡ suc (suc (z + z))
   two_more = omega (arith, (lawful_of m).paired, here)
@@ -68,15 +65,18 @@ module _ (m : Map) (a : ℕ) (here : a < arc_count (state_of m)) (apart : share_
   pub room : m.nodes + 1 ≤ m.sides.used
   room = omega (arith, node_room us vs m.nodes m.polygons z a two_more low L apart some, two_more, sides_long)
 
-  module _ (t s w : Table Side) (c : Renumbering) (left : ℕ) (free : Replaced m.sides t us₁)
-      (numbers : c ≡ lift_numbers (take t.used t.rows.now) (m.nodes + 1) m.polygons a) (shrunk : Shrunk (renumbered c) t s a)
+  module _ (t s w : Table Side) (c : Renumbering) (left : ℕ) (free : Holds m.sides t (freed (state_of m).sides m.nodes a))
+      (numbers : c ≡ lift_numbers (take t.used t.rows.now) (m.nodes + 1) m.polygons a) (shrunk : Holds t s (map (renumbered c) (rows_without (take t.used t.rows.now) a)))
       (back : PutBack s w (get_or m.sides.rows.now (m.sides.used - 2) no_side) (get_or m.sides.rows.now (m.sides.used - 1) no_side))
       (lefts : left ≡ polygons_left us₁ m.polygons a) where
     abbrev full : List Side
     full = m.sides.rows.now
 
+    used_same : t.used ≡ m.sides.used
+    used_same = free_used m a t free
+
     used_less : s.used ≡ m.sides.used - 2
-    used_less = omega (arith, shrunk.used, free.used)
+    used_less = removed_used (renumbered c) t s a shrunk ∙ ap (λ (k : ℕ). k - 2) used_same
 
     two_fewer : s.used + 2 ≡ m.sides.used
     two_fewer = omega (arith, used_less, sides_long, two_more)
@@ -94,11 +94,11 @@ module _ (m : Map) (a : ℕ) (here : a < arc_count (state_of m)) (apart : share_
     long_less = shrunk.long ∙ free.long
 
     fits_less : s.used + 2 ≤ length full
-    fits_less = omega (arith, two_fewer, m.sides_fit)
+    fits_less = omega (arith, two_fewer, m.sides.fits)
 
     beyond : drop (s.used + 2) s.rows.now ≡ drop (s.used + 2) full
     beyond =
-        let e : s.used + 2 ≡ t.used = omega (arith, two_fewer, free.used) in
+        let e : s.used + 2 ≡ t.used = omega (arith, two_fewer, used_same) in
         sym (drop-drop 2 s.used s.rows.now)
         ∙ (ap (drop 2) shrunk.rest ∙ (drop-drop 2 s.used t.rows.now ∙ (ap (λ (k : ℕ). drop k t.rows.now) e ∙ (free.rest ∙ ap (λ (k : ℕ). drop k full) (sym e)))))
 
@@ -128,13 +128,9 @@ module _ (m : Map) (a : ℕ) (here : a < arc_count (state_of m)) (apart : share_
     pub used_two : w.used + 2 ≡ m.sides.used
     used_two = omega (arith, back.used, two_fewer)
 
-    pub dissolve_fits : Fits w m.vertices
-    dissolve_fits = record {
-      sides_fit = omega (arith, used_two, long_are, m.sides_fit);
-      arcs_few = omega (arith, used_two, m.arcs_few);
-      vertices_fit = m.vertices_fit;
-      vertices_few = m.vertices_few;
-    }
+    -- the rows in use are few enough
+    pub dissolve_few : (w.used ≤ 32768) × (m.vertices.used ≤ 1048576)
+    dissolve_few = (omega (arith, used_two, m.arcs_few), m.vertices_few)
 
     pub dissolve_law : Lawful (take w.used w.rows.now) vs w.used m.nodes left
     dissolve_law =
@@ -167,7 +163,7 @@ module _ (m : Map) (a : ℕ) (here : a < arc_count (state_of m)) (apart : share_
         ∙ (cond-false (share_ring us a) (Err SidesShareRing) _ apart ∙ cond-false (both_alone us a) (Err RingsAlone) (Ok (lifted (set_free (state_of m) a) a)) some))
 
     length₂ : length (take w.used w.rows.now) ≡ z + z
-    length₂ = long w.rows.now w.used dissolve_fits.sides_fit ∙ used_are
+    length₂ = long w.rows.now w.used w.fits ∙ used_are
 
     pub dissolve_merged : RingsMerged (state_of m) (state_from m.hand w m.vertices m.nodes left) a
     dissolve_merged = record {

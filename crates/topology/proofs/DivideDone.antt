@@ -1,12 +1,9 @@
 -- A map in which a ring is divided.
-use Rattle.std.proofs.Common.{◌≡◌, ℕ, suc, ◌+◌, ◌-◌, ◌/◌, ◌<◌, ◌≤◌, true, false, ◌&&◌, eqb, ltb, leb, ◌⊎◌, List, ◌++◌, length, get_or, take, drop, Ok, Err, sym, refl, ap, ◌∙◌, subst, inl, inr, add-one, arith}
-use Rattle.std.proofs.lemmas.Bool.{and_parts, and_from, leb-true, lt-ltb, cond-true, cases_eq, cases_Bool, eq-eqb, ne_eqb}
+use Rattle.std.proofs.Common.{◌≡◌, ℕ, suc, ◌+◌, ◌-◌, ◌/◌, ◌<◌, ◌≤◌, true, false, ◌&&◌, ltb, ◌⊎◌, List, ◌++◌, length, get_or, take, drop, Ok, Err, sym, refl, ap, ◌∙◌, subst, inl, inr, add-one, arith}
+use Rattle.std.proofs.lemmas.Bool.{and_parts, and_from, lt-ltb, cond-true}
 use Rattle.refusal.specs.declared.Refusal.TheVariants.{NoSuchElement, SidesInTwoRings, UnfitRun, RunEndsElsewhere, NoRoom}
 use Rattle.rings.specs.Circles.{one_if, ring, rings, meets}
 use Rattle.rings.specs.Law.{Ringed}
-use Rattle.rings.proofs.Ringed.{ringed_circles}
-use Rattle.rings.proofs.LowMeets.{low_same}
-use Rattle.rings.proofs.Division.{same_ring}
 use Rattle.rings.proofs.TwoRings.{came_before}
 use Rattle.topology.specs.declared.side.Side.{Side}
 use Rattle.topology.specs.declared.vertex.Vertex.{Vertex}
@@ -14,79 +11,24 @@ use Rattle.topology.specs.declared.table.Table.{Table}
 use Rattle.topology.specs.declared.map.Map.{Map}
 use Rattle.topology.specs.declared.arc_side.ArcSide.{ArcSide}
 use Rattle.topology.specs.declared.arc_side.ArcSide.TheVariants.{Unturned, Turned}
-use Rattle.topology.specs.Rows.{no_side, no_vertex, next_of, polygon_of, low_of, row_of, start_of, same_place}
+use Rattle.topology.specs.Rows.{no_side, no_vertex, next_of, polygon_of, start_of, same_place}
 use Rattle.topology.specs.States.{State, state_of}
 use Rattle.topology.specs.MapLaw.{InRings}
-use Rattle.topology.specs.Tables.{Grown}
+use Rattle.topology.specs.Tables.{Holds, Grown}
 use Rattle.topology.specs.Lawfuls.{Lawful}
-use Rattle.topology.specs.Edited.{Fits}
 use Rattle.topology.specs.Questions.{Rises}
 use Rattle.topology.specs.Islands.{arc_room, vertex_room}
-use Rattle.topology.specs.Divisions.{ring_told, linked, unturned_polygon, turned_polygon, divided_sides, fit_run, leads, divided, divide_outcome, RingDivided, Holds}
+use Rattle.topology.specs.Divisions.{ring_told, linked, unturned_polygon, turned_polygon, divided_sides, fit_run, leads, divided, divide_outcome, RingDivided}
 use Rattle.topology.proofs.InUse.{in_use, long}
-use Rattle.topology.proofs.Assembling.{lawful_at, lawful_of, state_from}
-use Rattle.topology.proofs.IslandLaw.{row_low}
+use Rattle.topology.proofs.Growth.{held_used, grown_used}
+use Rattle.topology.proofs.Assembling.{lawful_at, lawful_of, state_from, room_told}
 use Rattle.topology.proofs.RingTold.{told_long, told_else}
 use Rattle.topology.proofs.DivideLaw.{linked_long, linked_rings, next', long', rings_more, two_apart, in_just_one, other_rings, divide_lawful}
-
--- ---- what is read of a map
-
--- two sides stand in one ring just if they tell one lowest side
-pub one_low : (m : Map) (s t : ℕ) → s < m.sides.used → t < m.sides.used →
-    eqb (get_or m.sides.rows.now s no_side).low (get_or m.sides.rows.now t no_side).low ≡ meets (next_of (state_of m).sides) (length (state_of m).sides) s t
-one_low m s t ls lt =
-    let us = (state_of m).sides in
-    let rows = m.sides.rows.now in
-    let n = length us in
-    let f = next_of us in
-    let L = lawful_of m in
-    let e : n ≡ m.sides.used = long rows m.sides.used m.sides_fit in
-    let ks : s < n = omega arith in
-    let kt : t < n = omega arith in
-    ap (λ (r : Side). eqb r.low (get_or rows t no_side).low) (in_use rows m.sides.used s no_side ls)
-    ∙ (ap (λ (r : Side). eqb (low_of us s) r.low) (in_use rows m.sides.used t no_side lt)
-    ∙ elim (cases_eq (low_of us s) (low_of us t)) [
-      | inl i ↦ eq-eqb (low_of us s) (low_of us t) i ∙ sym (low_same f (low_of us) n L.in_rings L.low_along L.low_names s t ks kt i)
-      | inr ne ↦
-          ne_eqb (low_of us s) (low_of us t) ne
-          ∙ elim (cases_Bool (meets f n s t)) [
-            | inl h ↦ absurd (ne (sym (same_ring f (low_of us) n (rings f n) (ringed_circles f n L.in_rings) L.low_along s t ks kt (λ _. h))))
-            | inr h ↦ sym h
-          ]
-    ])
-
-pub start_row : (m : Map) (s : ℕ) → s < m.sides.used → (get_or m.sides.rows.now s no_side).row < m.vertices.used
-start_row m s l =
-    let us = (state_of m).sides in
-    let L = lawful_of m in
-    let e = long m.sides.rows.now m.sides.used m.sides_fit in
-    let v = long m.vertices.rows.now m.vertices.used m.vertices_fit in
-    let r = row_low us (state_of m).vertices (length us) s L.paired L.runs_stand (omega arith) in
-    let i : (get_or m.sides.rows.now s no_side).row ≡ row_of us s = ap (λ (r : Side). r.row) (in_use m.sides.rows.now m.sides.used s no_side l) in
-    omega arith
-
-pub start_read : (m : Map) (s : ℕ) → s < m.sides.used →
-    get_or m.vertices.rows.now (get_or m.sides.rows.now s no_side).row no_vertex ≡ start_of (state_of m).sides (state_of m).vertices s
-start_read m s l =
-    in_use m.vertices.rows.now m.vertices.used (get_or m.sides.rows.now s no_side).row no_vertex (start_row m s l)
-    ∙ ap (λ (r : Side). get_or (state_of m).vertices r.row no_vertex) (in_use m.sides.rows.now m.sides.used s no_side l)
-
--- the room for an arc of k vertices
-room_told : (m : Map) (k : ℕ) → (arc_room (state_of m) && vertex_room (state_of m) k) ≡ true →
-    (length (state_of m).sides + 2 ≤ length m.sides.rows.now) × (length (state_of m).sides + 2 ≤ 32768)
-    × (length (state_of m).vertices + k ≤ length m.vertices.rows.now) × (length (state_of m).vertices + k ≤ 1048576)
-room_told m k room =
-    let n = length (state_of m).sides in
-    let v = length (state_of m).vertices in
-    let (x, y) = and_parts (arc_room (state_of m)) (vertex_room (state_of m) k) room in
-    let (c, d) = and_parts (leb (n + 2) (length m.sides.rows.now)) (leb (n + 2) 32768) x in
-    let (e, g) = and_parts (leb (v + k) (length m.vertices.rows.now)) (leb (v + k) 1048576) y in
-    (leb-true _ _ c, leb-true _ _ d, leb-true _ _ e, leb-true _ _ g)
 
 -- ---- tables
 
 held_rings : (w t : Table Side) (xs : List Side) → Holds w t xs → Ringed (next_of xs) (length xs) → InRings (take t.used t.rows.now) t.used
-held_rings w t xs h r = subst (λ (k : ℕ). Ringed (next_of (take t.used t.rows.now)) k) (sym h.used) (subst (λ (ys : List Side). Ringed (next_of ys) (length xs)) (sym h.rows) r)
+held_rings w t xs h r = subst (λ (k : ℕ). Ringed (next_of (take t.used t.rows.now)) k) (sym (held_used w t xs h)) (subst (λ (ys : List Side). Ringed (next_of ys) (length xs)) (sym h.rows) r)
 
 pub told_rings : (xs : List Side) (s p : ℕ) → Ringed (next_of xs) (length xs) → Ringed (next_of (ring_told xs s p)) (length (ring_told xs s p))
 told_rings xs s p r =
@@ -95,9 +37,8 @@ told_rings xs s p r =
 told_onto : (w t u : Table Side) (xs : List Side) (s p : ℕ) → Holds w t xs → Holds t u (ring_told (take t.used t.rows.now) s p) → Holds w u (ring_told xs s p)
 told_onto w t u xs s p h k =
     let e = ap (λ (ys : List Side). ring_told ys s p) h.rows in
-    let same : u.used ≡ t.used = k.used ∙ (ap length e ∙ (told_long xs s p ∙ sym h.used)) in
+    let same : u.used ≡ t.used = held_used t u (ring_told (take t.used t.rows.now) s p) k ∙ (ap length e ∙ (told_long xs s p ∙ sym (held_used w t xs h))) in
     record {
-      used = k.used ∙ ap length e;
       rows = k.rows ∙ e;
       rest = k.rest ∙ (ap (λ (j : ℕ). drop j t.rows.now) same ∙ (h.rest ∙ ap (λ (j : ℕ). drop j w.rows.now) (sym same)));
       long = k.long ∙ h.long;
@@ -160,10 +101,10 @@ module _ (m : Map) (first second : ℕ) (run : List Vertex) (named : ArcSide) (i
   linked_used = linked_long us first second (length vs) (length vs + (length run - 1))
 
   vertices_long : length vs ≡ m.vertices.used
-  vertices_long = long m.vertices.rows.now m.vertices.used m.vertices_fit
+  vertices_long = long m.vertices.rows.now m.vertices.used m.vertices.fits
 
   sides_long : n ≡ m.sides.used
-  sides_long = long m.sides.rows.now m.sides.used m.sides_fit
+  sides_long = long m.sides.rows.now m.sides.used m.sides.fits
 
   -- the tables as the code makes them, one after the other
   abbrev code_links : List Side
@@ -192,12 +133,10 @@ module _ (m : Map) (first second : ℕ) (run : List Vertex) (named : ArcSide) (i
       (subst (λ (z : ℕ). Holds m.sides w (ring_told (ring_told xs n pu) (m.sides.used + 1) z)) (e ∙ ap (turned_polygon named m.polygons) same_old)
       (told_onto m.sides u w (ring_told xs n pu) (m.sides.used + 1) v h k))
 
-  -- room for the arc
-  module _ (room : (arc_room (state_of m) && vertex_room (state_of m) (length run)) ≡ true) where
-    -- what a table of so many rows asks of the walks
-    pub walkable : (t : Table Side) (ys : List Side) → Holds m.sides t ys → length ys ≡ n + 2 → Ringed (next_of ys) (length ys) →
-        InRings (take t.used t.rows.now) t.used × (t.used ≤ length t.rows.now) × (m.sides.used + 1 < t.used)
-    walkable t ys h e r = (held_rings m.sides t ys h r, omega (arith, h.used, e, h.long, (room_told m (length run) room).0), omega (arith, h.used, e, sides_long))
+  -- what such a table of so many rows asks of the walks
+  pub walkable : (t : Table Side) (ys : List Side) → Holds m.sides t ys → length ys ≡ n + 2 → Ringed (next_of ys) (length ys) →
+      InRings (take t.used t.rows.now) t.used × (m.sides.used + 1 < t.used)
+  walkable t ys h e r = (held_rings m.sides t ys h r, omega (arith, held_used m.sides t ys h, e, sides_long))
 
   same_next : next_of us' ≡ next_of xs
   same_next = next' us vs run m.nodes m.polygons first second p.0 q.0 pu pt L ins.0 ins.1 p.1 q.1 p.2 q.2 share
@@ -240,15 +179,11 @@ module _ (m : Map) (first second : ℕ) (run : List Vertex) (named : ArcSide) (i
 
     module _ (s : Table Side) (v : Table Vertex) (room : (arc_room (state_of m) && vertex_room (state_of m) (length run)) ≡ true) (hs : Holds m.sides s us') (gv : Grown m.vertices v run) where
       used_are : s.used ≡ n + 2
-      used_are = hs.used ∙ so_long
+      used_are = held_used m.sides s us' hs ∙ so_long
 
-      pub divide_fits : Fits s v
-      divide_fits = record {
-        sides_fit = omega (arith, used_are, (room_told m (length run) room).0, hs.long);
-        arcs_few = omega (arith, used_are, (room_told m (length run) room).1);
-        vertices_fit = omega (arith, gv.used, vertices_long, (room_told m (length run) room).2, gv.long);
-        vertices_few = omega (arith, gv.used, vertices_long, (room_told m (length run) room).3);
-      }
+      -- the rows in use are few enough
+      pub divide_few : (s.used ≤ 32768) × (v.used ≤ 1048576)
+      divide_few = (omega (arith, used_are, (room_told m (length run) room).1), omega (arith, grown_used m.vertices v run gv, vertices_long, (room_told m (length run) room).3))
 
       pub divide_law : Lawful (take s.used s.rows.now) (take v.used v.rows.now) s.used m.nodes (m.polygons + 1)
       divide_law = lawful_at m.nodes (m.polygons + 1) (sym hs.rows) (sym gv.rows) (sym used_are) divided_law

@@ -1,7 +1,13 @@
--- Rows added to a table.
-use Rattle.std.proofs.Common.{◌≡◌, ℕ, ◌+◌, ◌<◌, ◌≤◌, List, [], ◌∷◌, ◌++◌, map, length, get_or, take, drop, set, sym, refl, ap, ◌∙◌, arith}
+-- Rows added to a table, and rows changed.
+use Rattle.std.proofs.Common.{◌≡◌, ℕ, ◌+◌, ◌<◌, ◌≤◌, List, [], ◌∷◌, ◌++◌, map, length, get_or, take, drop, set, sym, refl, ap, ◌∙◌, subst, arith}
 use borrow.Rule.Slice.PartMut.{put_mid}
-use Rattle.std.proofs.lemmas.List.{length-append, length-take, length-drop, length-take-le, take_at, drop-drop, append_assoc, same_lists, places, get_or-set_same, get_or-set_other, length-set, length-map, set_at, drop_at, get_or_at, drop_more, map_more}
+use Rattle.std.proofs.lemmas.List.{length-append, length-take, length-drop, take_at, drop-drop, append_assoc, same_lists, places, get_or-set_same, get_or-set_other, get_or_default, length-set, drop_at, drop_more}
+use Rattle.std.proofs.lemmas.List.Elements.{all_zip_more}
+use Rattle.std.proofs.Math.Seq.{take-length}
+use Rattle.std.specs.List.{AllZip}
+use Rattle.topology.specs.declared.table.Table.{Table}
+use Rattle.topology.specs.Tables.{Holds, Grown}
+use Rattle.topology.proofs.InUse.{long}
 use Rattle.std.proofs.lemmas.Bool.{cases_eq}
 
 pub take_set : {X : Type 0} (xs : List X) (n : ℕ) (v : X) → n < length xs → take (n + 1) (set xs n v) ≡ take n xs ++ v ∷ []
@@ -26,19 +32,67 @@ module _ {X : Type 0} (xs ys zs : List X) (n k : ℕ) (e : ys ≡ zs) (f : k ≡
   pub length_put : length (put_mid n k xs ys) ≡ length xs
   length_put = ap length told ∙ simp (length-append, length-take, length-drop) (omega arith)
 
--- the rows before i changed already, and now row i
-module _ {X : Type 0} (F : X → X) (xs : List X) (i : ℕ) (d : X) (h : i < length xs) where
-  so_long : length (map F (take i xs)) ≡ i
-  so_long = length-map (take i xs) F ∙ length-take-le i xs (omega arith)
+-- how many rows are in use
+pub held_used : {T : Type 0} (t u : Table T) (xs : List T) → Holds t u xs → u.used ≡ length xs
+held_used t u xs h = sym (long u.rows.now u.used u.fits) ∙ ap length h.rows
 
-  parted : map F (take i xs) ++ drop i xs ≡ map F (take i xs) ++ get_or xs i d ∷ drop (i + 1) xs
-  parted = ap (λ (ys : List X). map F (take i xs) ++ ys) (drop_more xs i d h)
+pub grown_used : {T : Type 0} (t u : Table T) (xs : List T) → Grown t u xs → u.used ≡ t.used + length xs
+grown_used t u xs g = held_used t u (take t.used t.rows.now ++ xs) g ∙ (length-append (take t.used t.rows.now) xs ∙ ap (λ (k : ℕ). k + length xs) (long t.rows.now t.used t.fits))
 
-  pub changed_here : get_or (map F (take i xs) ++ drop i xs) i d ≡ get_or xs i d
-  changed_here = ap (λ (ys : List X). get_or ys i d) parted ∙ get_or_at (map F (take i xs)) (get_or xs i d) (drop (i + 1) xs) d i so_long
+-- one row more, and then another
+pub grown_twice : {T : Type 0} (t u w : Table T) (a b : T) → Grown t u (a ∷ []) → Grown u w (b ∷ []) → Grown t w (a ∷ b ∷ [])
+grown_twice t u w a b g h =
+    let one : w.used ≡ u.used + 1 = grown_used u w (b ∷ []) h in
+    record {
+      rows = h.rows ∙ ap (λ xs. xs ++ b ∷ []) g.rows ∙ append_assoc (take t.used t.rows.now) (a ∷ []) (b ∷ []);
+      rest = h.rest ∙ ap (λ k. drop k u.rows.now) one ∙ sym (drop-drop 1 u.used u.rows.now) ∙ ap (drop 1) g.rest ∙ drop-drop 1 u.used t.rows.now ∙ ap (λ k. drop k t.rows.now) (sym one);
+      long = h.long ∙ g.long;
+      lent = h.lent ∙ g.lent;
+    }
 
-  pub changed_next : set (map F (take i xs) ++ drop i xs) i (F (get_or xs i d)) ≡ map F (take (i + 1) xs) ++ drop (i + 1) xs
-  changed_next =
-      ap (λ (ys : List X). set ys i (F (get_or xs i d))) parted
-      ∙ (set_at (map F (take i xs)) (get_or xs i d) (drop (i + 1) xs) (F (get_or xs i d)) i so_long
-      ∙ (sym (append_assoc (map F (take i xs)) (F (get_or xs i d) ∷ []) (drop (i + 1) xs)) ∙ ap (λ (ys : List X). ys ++ drop (i + 1) xs) (sym (map_more F xs i d h))))
+-- ---- the rows in use, where as many others come in their place
+
+module _ {X : Type 0} (xs full : List X) (n : ℕ) (e : length xs ≡ n) (fit : n ≤ length full) where
+  pub front_new : take n (xs ++ drop n full) ≡ xs
+  front_new = take_at xs (drop n full) n e
+
+  pub front_rest : drop n (xs ++ drop n full) ≡ drop n full
+  front_rest = drop_at xs (drop n full) n e
+
+  pub front_long : length (xs ++ drop n full) ≡ length full
+  front_long = simp (length-append, length-drop) (omega arith)
+
+-- ---- rows changed one after the other
+
+-- the rows before i are changed, and those from i on are as they were
+pub record Changing {X : Type 0} (R : X → X → Type 0) (old rows : List X) (i : ℕ) : Type 0 where
+  pub changed : AllZip R (take i old) (take i rows)
+  pub ahead : drop i rows ≡ drop i old
+  pub long : length rows ≡ length old
+
+pub changing_more : {X : Type 0} (R : X → X → Type 0) (old rows : List X) (i : ℕ) (d y : X) → i < length old → Changing R old rows i → R (get_or rows i d) y → Changing R old (set rows i y) (i + 1)
+changing_more R old rows i d y l c r =
+    let lt : i < length rows = omega (arith, c.long) in
+    let same = drop_more rows i d lt in
+    let was = drop_more old i d l in
+    let e : get_or rows i d ∷ drop (i + 1) rows ≡ get_or old i d ∷ drop (i + 1) old = sym same ∙ (c.ahead ∙ was) in
+    let h : get_or rows i d ≡ get_or old i d = cc in
+    record {
+      changed =
+          subst (AllZip R (take (i + 1) old)) (sym (take_set rows i y lt))
+          (all_zip_more R old (take i rows) i (get_or rows i d) y l (h ∙ get_or_default old i d (get_or rows i d) l) c.changed r);
+      ahead = drop_set rows i y ∙ cc;
+      long = length-set rows i y ∙ c.long;
+    }
+
+pub changing_done : {X : Type 0} (R : X → X → Type 0) (old rows : List X) (i : ℕ) → i ≡ length old → Changing R old rows i → AllZip R old rows
+changing_done R old rows i e d =
+    let c = subst (Changing R old rows) e d in
+    subst (AllZip R old) (ap (λ (n : ℕ). take n rows) (sym c.long) ∙ take-length rows) (subst (λ xs. AllZip R xs (take (length old) rows)) (take-length old) c.changed)
+
+-- what a function says of each row, it says of the rows
+pub changed_all : {X : Type 0} (F : X → X) (R : X → X → Type 0) → ((x y : X) → R x y → y ≡ F x) → (xs ys : List X) → AllZip R xs ys → ys ≡ map F xs
+changed_all F R f [] [] z = refl
+changed_all F R f [] (y ∷ ys) z = absurd z
+changed_all F R f (x ∷ xs) [] z = absurd z
+changed_all F R f (x ∷ xs) (y ∷ ys) z = ap (λ (v : _). v ∷ ys) (f x y z.0) ∙ ap (λ vs. F x ∷ vs) (changed_all F R f xs ys z.1)

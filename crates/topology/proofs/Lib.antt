@@ -1,5 +1,5 @@
 pub mod InUse
-pub mod ArcRows
+pub mod Enumerated
 pub mod Lowest
 pub mod Growth
 pub mod Appended
@@ -11,13 +11,11 @@ pub mod IslandLaw
 pub mod DivideLaw
 pub mod Linking
 pub mod DivideDone
-pub mod Goods
 pub mod Assembling
 pub mod IslandDone
 pub mod Turning
 pub mod Alone
 pub mod Shrinking
-pub mod LiftNumbers
 pub mod LiftDone
 pub mod LiftLaw
 pub mod LowestSides

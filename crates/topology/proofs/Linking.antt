@@ -1,12 +1,11 @@
 -- The rows of a new arc linked into a ring, one write after the other.
-use Rattle.std.proofs.Common.{◌≡◌, ℕ, suc, ◌+◌, ◌<◌, ◌≤◌, cond, eqb, List, length, get_or, take, drop, set, sym, ap, ◌∙◌, inl, inr, arith}
-use Rattle.std.proofs.lemmas.Bool.{cases_eq, cases_lt, eq-eqb, ne_eqb, cond-true, cond-false}
-use Rattle.std.proofs.lemmas.List.{length-set, get_or-set_same, get_or-set_other, get_or-take, drop-set-lt, length-take-le, ext_get_or}
+use Rattle.std.proofs.Common.{◌≡◌, ℕ, ◌+◌, ◌<◌, ◌≤◌, cond, eqb, List, [], ◌∷◌, ◌++◌, map, length, get_or, take, drop, set, sym, ap, ◌∙◌, inl, inr, arith}
+use Rattle.std.proofs.lemmas.Bool.{cases_eq, eq-eqb, ne_eqb, cond-true, cond-false}
+use Rattle.std.proofs.lemmas.List.{length-set, get_or-set_same, get_or-set_other, get_or-take, drop-set-lt, length-take-le, length-map, get_or-map, ext_get_or}
 use Rattle.topology.specs.declared.side.Side.{Side}
 use Rattle.topology.specs.Rows.{no_side, next_of}
 use Rattle.topology.specs.Divisions.{relinked, unturned_to, turned_to, linked}
 use Rattle.topology.proofs.InUse.{in_use, long}
-use Rattle.topology.proofs.DivideLaw.{linked_long, old_row, n_row, top_row}
 
 -- a side that leads elsewhere
 abbrev leading : ℕ → Side → Side
@@ -39,15 +38,6 @@ module _ (full : List Side) (n p q first second row last on : ℕ) (fit : n + 2 
   abbrev r2 : List Side
   r2 = set r1 p (leading n (get_or r1 p no_side))
 
-  abbrev r3 : List Side
-  r3 = set r2 n A
-
-  abbrev after : List Side
-  after = set r3 (n + 1) B
-
-  abbrev ws : List Side
-  ws = linked us first second row last
-
   us_long : length us ≡ n
   us_long = long full n (omega arith)
 
@@ -57,20 +47,11 @@ module _ (full : List Side) (n p q first second row last on : ℕ) (fit : n + 2 
   size2 : length r2 ≡ length full
   size2 = length-set r1 p (leading n (get_or r1 p no_side)) ∙ size1
 
-  size3 : length r3 ≡ length full
-  size3 = length-set r2 n A ∙ size2
+  pub linked_size : length r2 ≡ length full
+  linked_size = size2
 
-  linked_size : length after ≡ length full
-  linked_size = length-set r3 (n + 1) B ∙ size3
-
-  linked_drop : drop (n + 2) after ≡ drop (n + 2) full
-  linked_drop =
-      drop-set-lt (n + 2) r3 (n + 1) B (omega arith)
-      ∙ (drop-set-lt (n + 2) r2 n A (omega arith)
-      ∙ (drop-set-lt (n + 2) r1 p (leading n (get_or r1 p no_side)) (omega arith) ∙ drop-set-lt (n + 2) full q (leading (n + 1) (get_or full q no_side)) (omega arith)))
-
-  below : (k : ℕ) → k < n → get_or after k no_side ≡ get_or r2 k no_side
-  below k l = get_or-set_other r3 (n + 1) k B no_side (omega arith) ∙ get_or-set_other r2 n k A no_side (omega arith)
+  pub linked_drop : (k : ℕ) → n ≤ k → drop k r2 ≡ drop k full
+  linked_drop k l = drop-set-lt k r1 p (leading n (get_or r1 p no_side)) (omega arith) ∙ drop-set-lt k full q (leading (n + 1) (get_or full q no_side)) (omega arith)
 
   -- the side before the first leads to n, whether or not it is the one before the second too
   at_p : get_or r2 p no_side ≡ leading n (get_or full p no_side)
@@ -131,31 +112,17 @@ module _ (full : List Side) (n p q first second row last on : ℕ) (fit : n + 2 
       ∙ ap (λ (v : ℕ). record { node = (get_or us second no_side).node; row = last; polygon = (get_or us first no_side).polygon; next = v; low = (get_or us first no_side).low })
       (turns ∙ ap (λ (j : ℕ). cond (eqb first second) (j + 1) first) (sym us_long)))
 
-  each : (k : ℕ) → k < n + 2 → get_or after k no_side ≡ get_or ws k no_side
-  each k l =
-      elim (cases_lt k n) [
-        | inl lk ↦ below k lk ∙ (old k lk ∙ sym (old_row us first second row last k (omega (arith, us_long))))
-        | inr g ↦
-            elim (cases_eq k n) [
-              | inl e ↦
-                  get_or-set_other r3 (n + 1) k B no_side (omega arith)
-                  ∙ (ap (λ (j : ℕ). get_or r3 j no_side) e
-                  ∙ (get_or-set_same r2 n A no_side (omega (arith, size2)) ∙ (A_is ∙ (sym (n_row us first second row last) ∙ ap (λ (j : ℕ). get_or ws j no_side) (us_long ∙ sym e)))))
-              | inr ne ↦
-                  let i : k ≡ n + 1 = omega arith in
-                  let j : suc (length us) ≡ k = omega (arith, us_long) in
-                  ap (λ (j : ℕ). get_or after j no_side) i
-                  ∙ (get_or-set_same r3 (n + 1) B no_side (omega (arith, size3)) ∙ (B_is ∙ (sym (top_row us first second row last) ∙ ap (λ (j : ℕ). get_or ws j no_side) j)))
-            ]
-      ]
+  front : take n r2 ≡ map (relinked (length us) first second) us
+  front =
+      let t = length-take-le n r2 (omega (arith, size2)) in
+      ext_get_or no_side (take n r2) (map (relinked (length us) first second) us) (t ∙ sym (length-map us (relinked (length us) first second) ∙ us_long))
+      (λ k l.
+      let h : k < n = omega (arith, t) in
+      get_or-take n r2 k no_side h ∙ (old k h ∙ sym (get_or-map (relinked (length us) first second) us k no_side no_side (omega (arith, us_long)))))
 
-  ws_long : length ws ≡ n + 2
-  ws_long = linked_long us first second row last ∙ ap (λ (j : ℕ). j + 2) us_long
-
-  linked_take : take (n + 2) after ≡ ws
-  linked_take =
-      let t = length-take-le (n + 2) after (omega (arith, linked_size)) in
-      ext_get_or no_side (take (n + 2) after) ws (t ∙ sym ws_long) (λ k l. get_or-take (n + 2) after k no_side (omega (arith, t)) ∙ each k (omega (arith, t)))
-
-  pub linked_rows : (n + 2 ≡ length ws) × (take (n + 2) after ≡ ws) × (drop (n + 2) after ≡ drop (n + 2) full) × (length after ≡ length full)
-  linked_rows = (sym ws_long, linked_take, linked_drop, linked_size)
+  -- the rows in use, once the two new ones are pushed
+  pub linked_rows : take n r2 ++ A ∷ B ∷ [] ≡ linked us first second row last
+  linked_rows =
+      ap (λ (xs : List Side). xs ++ A ∷ B ∷ []) front
+      ∙ (ap (λ (r : Side). map (relinked (length us) first second) us ++ r ∷ B ∷ []) A_is
+      ∙ ap (λ (r : Side). map (relinked (length us) first second) us ++ unturned_to us first second row ∷ r ∷ []) B_is)

@@ -1,11 +1,26 @@
 -- Rows that go from a table: the last two take their place.
 use Rattle.std.proofs.Common.{◌≡◌, ℕ, ◌+◌, ◌-◌, ◌%◌, ◌<◌, ◌≤◌, List, ◌++◌, map, length, get_or, take, drop, set, sym, ap, ◌∙◌, inl, inr, arith}
 use Rattle.std.proofs.lemmas.Bool.{cases_eq, cases_lt}
-use Rattle.std.proofs.lemmas.List.{length-append, length-drop, length-take-le, length-set, length-map, take_at, drop_at, same_lists, get_or-set_same, get_or-set_other, get_or-take, drop-set-lt, set-get_or}
+use Rattle.std.proofs.lemmas.List.{length-take-le, length-set, length-map, same_lists, get_or-set_same, get_or-set_other, get_or-take, drop-set-lt, set-get_or}
 use Rattle.topology.specs.declared.side.Side.{Side}
 use Rattle.topology.specs.Rows.{no_side}
 use Rattle.topology.specs.Lifts.{rows_without}
 use Rattle.topology.proofs.InUse.{in_use, long}
+use Rattle.topology.specs.declared.table.Table.{Table}
+use Rattle.topology.specs.Tables.{Holds}
+use Rattle.topology.proofs.Growth.{front_new, front_rest, front_long, held_used}
+
+-- how many rows are left
+rows_left : (us : List Side) (a : ℕ) → length (rows_without us a) ≡ length us - 2
+rows_left us a =
+    let x = get_or us (length us - 2) no_side in
+    let y = get_or us (length us - 1) no_side in
+    length-take-le (length us - 2) (set (set us (a + a) x) (a + a + 1) y) (omega (arith, length-set (set us (a + a) x) (a + a + 1) y, length-set us (a + a) x))
+
+pub removed_used : (F : Side → Side) (t s : Table Side) (a : ℕ) → Holds t s (map F (rows_without (take t.used t.rows.now) a)) → s.used ≡ t.used - 2
+removed_used F t s a h =
+    let us = take t.used t.rows.now in
+    held_used t s (map F (rows_without us a)) h ∙ (length-map (rows_without us a) F ∙ (rows_left us a ∙ ap (λ (k : ℕ). k - 2) (long t.rows.now t.used t.fits)))
 
 -- two rows set, in lists that agree at k
 two_set : (b d : List Side) (s k : ℕ) (u v e : Side) → s + 1 < length b → s + 1 < length d → get_or b k e ≡ get_or d k e →
@@ -71,15 +86,15 @@ module _ (full : List Side) (n a : ℕ) (here : a + a + 1 < n) (even : n % 2 ≡
             ap (drop (n - 2)) (ap (λ (ys : List Side). set ys (a + a + 1) y) s ∙ (ap (λ (k : ℕ). set full k y) j ∙ set-get_or full (n - 1) no_side))
       ]
 
-  module _ (F : Side → Side) (after : List Side) (e : after ≡ map F (take (n - 2) xs) ++ drop (n - 2) xs) where
-    front : length (map F (take (n - 2) xs)) ≡ n - 2
-    front = length-map (take (n - 2) xs) F ∙ length-take-le (n - 2) xs (omega (arith, xs_long))
+  module _ (F : Side → Side) (after : List Side) (e : after ≡ map F (take (n - 2) xs)) where
+    after_long : length after ≡ n - 2
+    after_long = ap length e ∙ (length-map (take (n - 2) xs) F ∙ length-take-le (n - 2) xs (omega (arith, xs_long)))
 
-    pub without_rows : take (n - 2) after ≡ map F (rows_without (take n full) a)
-    without_rows = ap (take (n - 2)) e ∙ (take_at (map F (take (n - 2) xs)) (drop (n - 2) xs) (n - 2) front ∙ ap (map F) same_rows)
+    pub without_rows : take (n - 2) (after ++ drop (n - 2) xs) ≡ map F (rows_without (take n full) a)
+    without_rows = front_new after xs (n - 2) after_long (omega (arith, xs_long)) ∙ (e ∙ ap (map F) same_rows)
 
-    pub without_rest : drop (n - 2) after ≡ drop (n - 2) full
-    without_rest = ap (drop (n - 2)) e ∙ (drop_at (map F (take (n - 2) xs)) (drop (n - 2) xs) (n - 2) front ∙ same_rest)
+    pub without_rest : drop (n - 2) (after ++ drop (n - 2) xs) ≡ drop (n - 2) full
+    without_rest = front_rest after xs (n - 2) after_long (omega (arith, xs_long)) ∙ same_rest
 
-    pub without_long : length after ≡ length full
-    without_long = ap length e ∙ (length-append (map F (take (n - 2) xs)) (drop (n - 2) xs) ∙ omega (arith, front, length-drop (n - 2) xs, xs_long))
+    pub without_long : length (after ++ drop (n - 2) xs) ≡ length full
+    without_long = front_long after xs (n - 2) after_long (omega (arith, xs_long)) ∙ xs_long

@@ -1,7 +1,7 @@
 -- A map whose tables hold a parted arc.
-use Rattle.std.proofs.Common.{◌≡◌, ℕ, ◌+◌, ◌-◌, ◌<◌, ◌≤◌, true, ◌&&◌, ltb, leb, List, [], ◌∷◌, ◌++◌, length, get_or, take, Ok, Err, sym, ap, ◌∙◌, arith}
-use Rattle.std.proofs.lemmas.Bool.{and_parts, leb-true, ltb-true, lt-ltb, cond-true}
-use Rattle.std.proofs.lemmas.List.{length-map}
+use Rattle.std.proofs.Common.{◌≡◌, ℕ, ◌+◌, ◌-◌, ◌<◌, ◌≤◌, true, ◌&&◌, ltb, List, [], ◌∷◌, ◌++◌, length, get_or, take, Ok, Err, sym, refl, ap, ◌∙◌, arith}
+use Rattle.std.proofs.lemmas.Bool.{and_parts, ltb-true, lt-ltb, cond-true}
+use Rattle.std.proofs.lemmas.List.{length-append, length-set, length-map}
 use Rattle.refusal.specs.declared.Refusal.TheVariants.{NoSuchElement, NotInsideArc, NoRoom}
 use Rattle.rings.specs.LetIn.{let_in, split_after}
 use Rattle.rings.proofs.SplitRings.{some_before}
@@ -11,15 +11,19 @@ use Rattle.topology.specs.declared.table.Table.{Table}
 use Rattle.topology.specs.declared.map.Map.{Map}
 use Rattle.topology.specs.Rows.{no_side, no_vertex, next_of, row_of}
 use Rattle.topology.specs.States.{State, state_of}
-use Rattle.topology.specs.Tables.{Grown}
+use Rattle.topology.specs.Tables.{Holds, Grown}
 use Rattle.topology.specs.Lawfuls.{Lawful}
-use Rattle.topology.specs.Edited.{Fits}
 use Rattle.topology.specs.Questions.{arc_count, rings_of}
 use Rattle.topology.specs.Islands.{arc_room, vertex_room}
-use Rattle.topology.specs.Splits.{inside, split_sides, split, split_outcome, Parted, Parts}
+use Rattle.topology.specs.Splits.{inside, split_sides, split, split_outcome, Parts}
 use Rattle.topology.proofs.InUse.{in_use, long}
-use Rattle.topology.proofs.Assembling.{lawful_at, lawful_of, state_from}
+use Rattle.topology.proofs.Growth.{held_used, grown_used}
+use Rattle.topology.proofs.Assembling.{lawful_at, lawful_of, state_from, room_told}
 use Rattle.topology.proofs.SplitLaw.{split_lawful, rings_after, new_turn_after, turns_after, ends_after, front_after, back_after, others_after}
+
+-- how many sides there are then
+pub parted_long : (us : List Side) (node a row : ℕ) → length (split_sides us node a row) ≡ length us + 2
+parted_long us node a row = simp (length-append, length-set, length-map) refl
 
 -- the row where a map's arc is parted, read through the whole table, is in use
 module _ (m : Map) (a k : ℕ) (here : a < arc_count (state_of m)) (ins : inside (state_of m).sides a k ≡ true) where
@@ -33,10 +37,10 @@ module _ (m : Map) (a k : ℕ) (here : a < arc_count (state_of m)) (ins : inside
   row = row_of us (a + a) + k
 
   sides_long : length us ≡ m.sides.used
-  sides_long = long m.sides.rows.now m.sides.used m.sides_fit
+  sides_long = long m.sides.rows.now m.sides.used m.sides.fits
 
   vertices_long : length vs ≡ m.vertices.used
-  vertices_long = long m.vertices.rows.now m.vertices.used m.vertices_fit
+  vertices_long = long m.vertices.rows.now m.vertices.used m.vertices.fits
 
   L : Lawful us vs (length us) m.nodes m.polygons
   L = lawful_of m
@@ -59,7 +63,7 @@ module _ (m : Map) (a k : ℕ) (here : a < arc_count (state_of m)) (ins : inside
   row_read = ap (λ (r : Side). r.row + k) (in_use m.sides.rows.now m.sides.used (a + a) no_side (omega (arith, both_sides, sides_long)))
 
   pub row_low : ((get_or m.sides.rows.now (a + a) no_side).row + k < m.vertices.used) × (m.vertices.used ≤ length m.vertices.rows.now) × (m.vertices.used ≤ 1048576)
-  row_low = (omega (arith, row_read, in_table, vertices_long), m.vertices_fit, m.vertices_few)
+  row_low = (omega (arith, row_read, in_table, vertices_long), m.vertices.fits, m.vertices_few)
 
   pub vertex_read : get_or m.vertices.rows.now ((get_or m.sides.rows.now (a + a) no_side).row + k) no_vertex ≡ get_or vs row no_vertex
   vertex_read =
@@ -87,16 +91,15 @@ module _ (m : Map) (a k : ℕ) (here : a < arc_count (state_of m)) (ins : inside
       }
 
   module _ (s : Table Side) (v : Table Vertex) (i : ℕ) (x : Vertex) (room : (arc_room (state_of m) && vertex_room (state_of m) 1) ≡ true)
-      (ps : Parted m.sides s a m.nodes i) (gv : Grown m.vertices v (x ∷ [])) (at : i ≡ row) (vertex : x ≡ get_or vs row no_vertex) where
+      (ps : Holds m.sides s (split_sides (state_of m).sides m.nodes a i)) (gv : Grown m.vertices v (x ∷ [])) (at : i ≡ row) (vertex : x ≡ get_or vs row no_vertex) where
     rooms : (length us + 2 ≤ length m.sides.rows.now) × (length us + 2 ≤ 32768) × (length vs + 1 ≤ length m.vertices.rows.now) × (length vs + 1 ≤ 1048576)
-    rooms =
-        let (p, q) = and_parts (arc_room (state_of m)) (vertex_room (state_of m) 1) room in
-        let (c, d) = and_parts (leb (length us + 2) (length m.sides.rows.now)) (leb (length us + 2) 32768) p in
-        let (e, f) = and_parts (leb (length vs + 1) (length m.vertices.rows.now)) (leb (length vs + 1) 1048576) q in
-        (leb-true _ _ c, leb-true _ _ d, leb-true _ _ e, leb-true _ _ f)
+    rooms = room_told m 1 room
 
     used_are : s.used ≡ length us + 2
-    used_are = ps.used ∙ omega (arith, sides_long)
+    used_are = held_used m.sides s (split_sides us m.nodes a i) ps ∙ parted_long us m.nodes a i
+
+    pub used_two : s.used ≡ m.sides.used + 2
+    used_two = omega (arith, used_are, sides_long)
 
     sides_are : take s.used s.rows.now ≡ split_sides us m.nodes a row
     sides_are = ps.rows ∙ ap (split_sides us m.nodes a) at
@@ -104,13 +107,9 @@ module _ (m : Map) (a k : ℕ) (here : a < arc_count (state_of m)) (ins : inside
     vertices_are : take v.used v.rows.now ≡ vs ++ get_or vs row no_vertex ∷ []
     vertices_are = gv.rows ∙ ap (λ (y : Vertex). vs ++ y ∷ []) vertex
 
-    pub split_fits : Fits s v
-    split_fits = record {
-      sides_fit = omega (arith, used_are, rooms.0, ps.long);
-      arcs_few = omega (arith, used_are, rooms.1);
-      vertices_fit = omega (arith, gv.used, vertices_long, rooms.2, gv.long);
-      vertices_few = omega (arith, gv.used, vertices_long, rooms.3);
-    }
+    -- the rows in use are few enough
+    pub split_few : (s.used ≤ 32768) × (v.used ≤ 1048576)
+    split_few = (omega (arith, used_are, rooms.1), omega (arith, grown_used m.vertices v (x ∷ []) gv, vertices_long, rooms.3))
 
     pub split_law : Lawful (take s.used s.rows.now) (take v.used v.rows.now) s.used (m.nodes + 1) m.polygons
     split_law = lawful_at (m.nodes + 1) m.polygons (sym sides_are) (sym vertices_are) (sym used_are) law

@@ -1,5 +1,5 @@
 -- The rows of sides as the code of a split sets them.
-use Rattle.std.proofs.Common.{◌≡◌, ℕ, ◌+◌, ◌-◌, ◌<◌, ◌≤◌, ◌&&◌, eqb, ltb, List, [], ◌∷◌, ◌++◌, length, get_or, take, drop, set, sym, ap, ◌∙◌, inl, inr, arith}
+use Rattle.std.proofs.Common.{◌≡◌, ℕ, ◌+◌, ◌<◌, ◌≤◌, eqb, List, [], ◌∷◌, ◌++◌, length, get_or, take, drop, set, sym, ap, ◌∙◌, inl, inr, arith}
 use lib.Seq.{take-set-lt}
 use Rattle.std.proofs.lemmas.Bool.{cases_eq, cond-true, cond-false, eq-eqb, ne_eqb}
 use Rattle.std.proofs.lemmas.List.{get_or-set_same, get_or-set_other, length-set, length-map, same_lists, drop-set-lt, get_or_default}
@@ -7,20 +7,11 @@ use Rattle.rings.specs.Circles.{rings}
 use Rattle.rings.proofs.Ringed.{ringed_circles}
 use Rattle.rings.proofs.Closed.{one_image}
 use Rattle.topology.specs.declared.side.Side.{Side}
-use Rattle.topology.specs.declared.table.Table.{Table}
-use Rattle.topology.specs.Rows.{no_side, next_of, row_of}
+use Rattle.topology.specs.Rows.{no_side, next_of}
 use Rattle.topology.specs.MapLaw.{InRings}
-use Rattle.topology.specs.Tables.{Grown}
-use Rattle.topology.specs.Splits.{inside, leading, beginning, led, rows_led, split_sides, Parted}
+use Rattle.topology.specs.Splits.{leading, beginning, led, rows_led, split_sides}
 use Rattle.topology.proofs.InUse.{in_use, long}
 use Rattle.topology.proofs.SplitRows.{led_at}
-use Rattle.topology.proofs.IslandDone.{grown_twice}
-
--- whether a vertex is inside, with the rows read through the whole table
-pub inside_read : (rows : List Side) (u a k : ℕ) → a + a + 1 < u → inside (take u rows) a k ≡ (ltb 0 k && ltb k (row_of rows (a + a + 1) - row_of rows (a + a)))
-inside_read rows u a k l =
-    ap (λ (r : Side). ltb 0 k && ltb k (r.row - row_of (take u rows) (a + a))) (sym (in_use rows u (a + a + 1) no_side l))
-    ∙ ap (λ (r : Side). ltb 0 k && ltb k (row_of rows (a + a + 1) - r.row)) (sym (in_use rows u (a + a) no_side (omega arith)))
 
 module _ (full : List Side) (n a node row p : ℕ) (fit : n ≤ length full) (here : a + a + 1 < n) (ringed : InRings (take n full) n) (lp : p < n)
     (leads : next_of (take n full) p ≡ a + a + 1) where
@@ -115,42 +106,3 @@ module _ (full : List Side) (n a node row p : ℕ) (fit : n ≤ length full) (he
 
   pub three_long : length three ≡ length full
   three_long = length-set two o (beginning node row (get_or two o no_side)) ∙ (length-set one s (leading n (get_or one s no_side)) ∙ length-set full p (leading (n + 1) (get_or full p no_side)))
-
--- the table of sides, as the code makes it
-pub parted_done : (was mid one end : Table Side) (a node row p : ℕ) (b c d first last : Side) → was.used ≤ length was.rows.now → a + a + 1 < was.used →
-    InRings (take was.used was.rows.now) was.used → p < was.used → next_of (take was.used was.rows.now) p ≡ a + a + 1 →
-    b ≡ leading (was.used + 1) (get_or was.rows.now p no_side) →
-    c ≡ leading was.used (get_or (set was.rows.now p b) (a + a) no_side) →
-    d ≡ beginning node row (get_or (set (set was.rows.now p b) (a + a) c) (a + a + 1) no_side) →
-    first ≡ beginning node row (get_or (set was.rows.now p b) (a + a) no_side) → last ≡ leading (a + a + 1) (get_or was.rows.now (a + a + 1) no_side) →
-    mid.used ≡ was.used → mid.rows.now ≡ set (set (set was.rows.now p b) (a + a) c) (a + a + 1) d → mid.rows.ghost_name ≡ was.rows.ghost_name →
-    Grown mid one (first ∷ []) → Grown one end (last ∷ []) → Parted was end a node row
-parted_done was mid one end a node row p b c d first last fit here ringed lp leads eb ec ed ef el used now-is lent g h =
-    let full = was.rows.now in
-    let n = was.used in
-    let G : Grown mid end (first ∷ last ∷ []) = grown_twice mid one end first last g h in
-    let b' = leading (n + 1) (get_or full p no_side) in
-    let c' = leading n (get_or (set full p b') (a + a) no_side) in
-    let d' = beginning node row (get_or (set (set full p b') (a + a) c') (a + a + 1) no_side) in
-    let ec' : c ≡ c' = ec ∙ ap (λ (r : Side). leading n (get_or (set full p r) (a + a) no_side)) eb in
-    let ed' : d ≡ d' =
-    ed ∙ (ap (λ (r : Side). beginning node row (get_or (set (set full p r) (a + a) c) (a + a + 1) no_side)) eb ∙ ap (λ (r : Side). beginning node row (get_or (set (set full p b') (a + a) r) (a + a + 1) no_side)) ec') in
-    let ef' : first ≡ beginning node row (get_or (set full p b') (a + a) no_side) = ef ∙ ap (λ (r : Side). beginning node row (get_or (set full p r) (a + a) no_side)) eb in
-    let now-is' : mid.rows.now ≡ set (set (set full p b') (a + a) c') (a + a + 1) d' =
-    now-is
-    ∙ (ap (λ (r : Side). set (set (set full p r) (a + a) c) (a + a + 1) d) eb
-    ∙ (ap (λ (r : Side). set (set (set full p b') (a + a) r) (a + a + 1) d) ec' ∙ ap (λ (r : Side). set (set (set full p b') (a + a) c') (a + a + 1) r) ed')) in
-    let more : end.used ≡ n + 2 = G.used ∙ omega (arith, used) in
-    record {
-      used = more;
-      rows =
-          G.rows
-          ∙ (ap (λ (m : ℕ). take m mid.rows.now ++ first ∷ last ∷ []) used
-          ∙ (ap (λ (xs : List Side). take n xs ++ first ∷ last ∷ []) now-is'
-          ∙ (ap (λ (r : Side). take n (set (set (set full p b') (a + a) c') (a + a + 1) d') ++ r ∷ last ∷ []) ef'
-          ∙ (ap (λ (r : Side). take n (set (set (set full p b') (a + a) c') (a + a + 1) d') ++ beginning node row (get_or (set full p b') (a + a) no_side) ∷ r ∷ []) el
-          ∙ rows_pushed full n a node row p fit here ringed lp leads))));
-      rest = G.rest ∙ (ap (drop end.used) now-is' ∙ rest_kept full n a node row p fit here ringed lp leads end.used (omega (arith, more)));
-      long = G.long ∙ (ap length now-is' ∙ three_long full n a node row p fit here ringed lp leads);
-      lent = G.lent ∙ lent;
-    }

@@ -1,5 +1,5 @@
 -- Dissolve: an arc goes, and the two rings of its sides become one.
-use Rattle.std.specs.Prelude.{◌≡◌, ℕ, zero, suc, ◌+◌, ◌-◌, ◌/◌, ◌<◌, Bool, cond, not, ◌&&◌, ◌||◌, List, map, length, take, drop, Ok, Err, Result, ◌==◌, nat_lt, slice_index_or, slice_set}
+use Rattle.std.specs.Prelude.{◌≡◌, ℕ, zero, suc, ◌+◌, ◌-◌, ◌/◌, ◌<◌, Bool, cond, not, ◌&&◌, ◌||◌, List, map, length, Ok, Err, Result, ◌==◌, nat_lt, slice_index_or, slice_set}
 use Rattle.refusal.specs.declared.Refusal.{Refusal}
 use Rattle.refusal.specs.declared.Refusal.TheVariants.{NoSuchElement, SidesShareRing, RingsAlone}
 use Rattle.rings.specs.Circles.{meets}
@@ -90,14 +90,6 @@ pub record RingsMerged (was is : State) (a : ℕ) : Type 0 where
   pub rings : (s t : ℕ) → s < length is.sides → t < length is.sides →
       together is s t
       ≡ (together was (number_before was a s) (number_before was a t) || (beside was a (number_before was a s) && beside was a (number_before was a t)))
-
--- the rows in use of a table are others; the free rows, and where the table lies, stay
-pub record Replaced (was is : Table Side) (us : List Side) : Type 0 where
-  pub used : is.used ≡ was.used
-  pub rows : take is.used is.rows.now ≡ us
-  pub rest : drop is.used is.rows.now ≡ drop is.used was.rows.now
-  pub long : length is.rows.now ≡ length was.rows.now
-  pub lent : is.rows.ghost_name ≡ was.rows.ghost_name
 
 -- the first two free rows of a table are others
 pub record PutBack (was is : Table Side) (u v : Side) : Type 0 where

@@ -1,12 +1,11 @@
 -- Division: an arc between the starts of two sides of one ring makes two rings of it.
-use Rattle.std.specs.Prelude.{◌≡◌, ℕ, ◌+◌, ◌-◌, ◌<◌, Bool, false, cond, ◌&&◌, List, [], ◌∷◌, ◌++◌, map, length, take, drop, Ok, Err, Result, ◌==◌, nat_le, nat_lt, slice_index_or}
+use Rattle.std.specs.Prelude.{◌≡◌, ℕ, ◌+◌, ◌-◌, ◌<◌, Bool, false, cond, ◌&&◌, List, [], ◌∷◌, ◌++◌, map, length, Ok, Err, Result, ◌==◌, nat_le, nat_lt, slice_index_or}
 use Rattle.std.specs.List.{range_with_len}
 use Rattle.refusal.specs.declared.Refusal.{Refusal}
 use Rattle.refusal.specs.declared.Refusal.TheVariants.{NoSuchElement, SidesInTwoRings, UnfitRun, RunEndsElsewhere, NoRoom}
 use Rattle.rings.specs.Circles.{one_if, walk, ring, meets}
 use Rattle.topology.specs.declared.side.Side.{Side}
 use Rattle.topology.specs.declared.vertex.Vertex.{Vertex}
-use Rattle.topology.specs.declared.table.Table.{Table}
 use Rattle.topology.specs.declared.arc_side.ArcSide.{ArcSide}
 use Rattle.topology.specs.declared.arc_side.ArcSide.TheVariants.{Unturned, Turned}
 use Rattle.topology.specs.Rows.{no_side, no_vertex, next_of, node_of, polygon_of, low_of, same_place, start_of}
@@ -126,11 +125,3 @@ pub record RingDivided (was is : State) (s : ℕ) : Type 0 where
       ≡ one_if (meets (next_of was.sides) (length was.sides) s k)
   pub others_stay : (k : ℕ) → k < length was.sides → meets (next_of was.sides) (length was.sides) s k ≡ false →
       ring (next_of is.sides) (length is.sides) k ≡ ring (next_of was.sides) (length was.sides) k
-
--- a table comes to hold these rows; the free rows beyond them, and where the table lies, stay
-pub record Holds {T : Type 0} (was is : Table T) (xs : List T) : Type 0 where
-  pub used : is.used ≡ length xs
-  pub rows : take is.used is.rows.now ≡ xs
-  pub rest : drop is.used is.rows.now ≡ drop is.used was.rows.now
-  pub long : length is.rows.now ≡ length was.rows.now
-  pub lent : is.rows.ghost_name ≡ was.rows.ghost_name

@@ -1,5 +1,6 @@
 -- Island: a closed arc at a node of its own, with a polygon on its unturned side.
-use Rattle.std.specs.Prelude.{ℕ, ◌+◌, ◌-◌, Bool, true, cond, ◌&&◌, List, [], ◌∷◌, ◌++◌, length, Ok, Err, Result, nat_le, nat_lt, slice_index_or}
+use Rattle.std.specs.Prelude.{ℕ, ◌+◌, ◌-◌, Bool, cond, ◌&&◌, List, [], ◌∷◌, ◌++◌, length, Ok, Err, Result, nat_le, nat_lt, slice_index_or}
+use Rattle.std.specs.List.{list_all}
 use Rattle.refusal.specs.declared.Refusal.{Refusal}
 use Rattle.refusal.specs.declared.Refusal.TheVariants.{NoSuchElement, UnfitRun, NoRoom}
 use Rattle.topology.specs.declared.side.Side.{Side}
@@ -9,8 +10,7 @@ use Rattle.topology.specs.States.{State}
 
 -- each vertex of a run is finite
 abbrev pub all_good : List Vertex → Bool
-all_good [] = true
-all_good (v ∷ vs) = good v && all_good vs
+all_good run = list_all good run
 
 -- a run that makes a closed arc: at least four vertices, its ends at one place, all finite
 abbrev pub closed_run : List Vertex → Bool

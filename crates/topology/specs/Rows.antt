@@ -1,5 +1,5 @@
 -- The rows of a map: sides and vertices.
-use Rattle.std.specs.Prelude.{ℕ, Bool, ◌&&◌, List, get_or, ◌==◌, slice_index_or}
+use Rattle.std.specs.Prelude.{ℕ, Bool, ◌&&◌, List, ◌==◌, slice_index_or}
 use Rattle.std.specs.Float.Ieee.{eq}
 use Rattle.std.specs.Float.{float_is_finite, nan}
 use Rattle.topology.specs.declared.side.Side.{Side}
@@ -14,22 +14,22 @@ no_vertex = record { x = nan; y = nan }
 
 -- the side after s in its ring
 abbrev pub next_of : List Side → ℕ → ℕ
-next_of us s = (get_or us s no_side).next
+next_of us s = (slice_index_or us s no_side).next
 
 -- the node where s begins
 abbrev pub node_of : List Side → ℕ → ℕ
-node_of us s = (get_or us s no_side).node
+node_of us s = (slice_index_or us s no_side).node
 
 abbrev pub polygon_of : List Side → ℕ → ℕ
-polygon_of us s = (get_or us s no_side).polygon
+polygon_of us s = (slice_index_or us s no_side).polygon
 
 -- the row of the vertex where s begins
 abbrev pub row_of : List Side → ℕ → ℕ
-row_of us s = (get_or us s no_side).row
+row_of us s = (slice_index_or us s no_side).row
 
 -- the lowest side of the ring of s, as the row tells it
 abbrev pub low_of : List Side → ℕ → ℕ
-low_of us s = (get_or us s no_side).low
+low_of us s = (slice_index_or us s no_side).low
 
 -- both coordinates are finite
 abbrev pub good : Vertex → Bool

@@ -1,5 +1,5 @@
 -- Split: an arc is parted at one of its vertices by a new node, where both its sides pass through.
-use Rattle.std.specs.Prelude.{◌≡◌, ℕ, suc, ◌+◌, ◌-◌, ◌<◌, Bool, cond, ◌&&◌, List, [], ◌∷◌, ◌++◌, map, length, take, drop, Ok, Err, Result, ◌≢◌, nat_le, nat_lt, slice_index_or, slice_set}
+use Rattle.std.specs.Prelude.{◌≡◌, ℕ, suc, ◌+◌, ◌-◌, ◌<◌, Bool, cond, ◌&&◌, List, [], ◌∷◌, ◌++◌, map, length, Ok, Err, Result, ◌≢◌, nat_le, nat_lt, slice_index_or, slice_set}
 use Rattle.refusal.specs.declared.Refusal.{Refusal}
 use Rattle.refusal.specs.declared.Refusal.TheVariants.{NoSuchElement, NotInsideArc, NoRoom}
 use Rattle.rings.specs.Circles.{ring}
@@ -7,7 +7,6 @@ use Rattle.rings.specs.Law.{turn}
 use Rattle.rings.specs.Edits.{fill}
 use Rattle.rings.specs.LetIn.{let_in, split_after}
 use Rattle.topology.specs.declared.side.Side.{Side}
-use Rattle.topology.specs.declared.table.Table.{Table}
 use Rattle.topology.specs.Rows.{no_side, no_vertex, next_of, node_of, row_of}
 use Rattle.topology.specs.States.{State}
 use Rattle.topology.specs.Questions.{arc_count, vertex_at, rings_of}
@@ -39,14 +38,6 @@ abbrev pub split_sides : List Side → ℕ → ℕ → ℕ → List Side
 split_sides us node a row =
     slice_set (slice_set (rows_led us a) (a + a) (leading (length us) (slice_index_or (rows_led us a) (a + a) no_side))) (a + a + 1) (beginning node row (slice_index_or (rows_led us a) (a + a + 1) no_side))
     ++ beginning node row (slice_index_or (rows_led us a) (a + a) no_side) ∷ leading (a + a + 1) (slice_index_or us (a + a + 1) no_side) ∷ []
-
--- the table of sides where arc a is parted; the free rows beyond them, and where the table lies, stay
-pub record Parted (was is : Table Side) (a node row : ℕ) : Type 0 where
-  pub used : is.used ≡ was.used + 2
-  pub rows : take is.used is.rows.now ≡ split_sides (take was.used was.rows.now) node a row
-  pub rest : drop is.used is.rows.now ≡ drop is.used was.rows.now
-  pub long : length is.rows.now ≡ length was.rows.now
-  pub lent : is.rows.ghost_name ≡ was.rows.ghost_name
 
 -- the vertex where arc a is parted counts once more
 abbrev pub split : State → ℕ → ℕ → State

@@ -1,5 +1,5 @@
 /// One of the two sides of an arc: along its run, or against it.
-#[derive(Clone, Copy)]
+#[derive(Clone, Copy, PartialEq, Eq, Debug)]
 pub enum ArcSide {
     Unturned,
     Turned,

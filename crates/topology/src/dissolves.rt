@@ -1,39 +1,30 @@
-ghost use Rattle.std.specs.Prelude.{◌≡◌, ℕ, ◌+◌, ◌-◌, ◌/◌, ◌<◌, ◌≤◌, false, not, ◌&&◌, ◌||◌, length, take, if◌then◌else◌, OnOk, ◌==◌, nat_eq};
+ghost use Rattle.std.specs.Prelude.{◌≡◌, ℕ, ◌+◌, ◌<◌, ◌≤◌, false, length, take, if◌then◌else◌, OnOk, nat_eq};
 ghost use Rattle.topology.specs.States.{state_of};
 ghost use Rattle.topology.specs.Edited.{Edited, Done};
 ghost use Rattle.topology.specs.Questions.{arc_count, Rises};
-ghost use Rattle.topology.specs.Dissolves.{share_ring, both_alone, in_either, first_from, merging, freed, dissolve_outcome, RingsMerged, Replaced, PutBack};
+ghost use Rattle.topology.specs.Tables.{Holds};
+ghost use Rattle.topology.specs.Dissolves.{share_ring, both_alone, alone_at, in_either, first_from, merging, freed, dissolve_outcome, RingsMerged, PutBack};
 
-use super::assembled::assembled;
-use super::lifts::{numbers_where, without};
+use super::lifts::numbers_where;
 use super::map::Map;
 use super::merging::{Merging, merge};
-use super::renumbering::{Renumbering, lower_of};
 use super::side::Side;
 use super::table::Table;
 use refusal::Refusal;
 
-// Whether a side is one of another arc, in one of two rings.
-fn stands_in(side: Side, at: usize, arc: usize, low: u32, other: u32) -> bool
-    ensures { result ≡ (not (at / 2 == arc) && (side.low == low || side.low == other)) }
-{
-    at / 2 != arc && (side.low == low || side.low == other)
-}
-
 // The lowest side of another arc in the rings of an arc's sides.
-fn lowest_left(sides: &[Side], used: usize, arc: usize) -> usize
-    requires { (used ≤ length sides.now) × (arc + arc + 1 < used) }
-    ensures value { result ≡ first_from (in_either (take used sides.now) arc) 0 used }
-    ensures low { result ≤ used }
+fn lowest_left(sides: &[Side], arc: usize) -> usize
+    requires { arc + arc + 1 < length sides.now }
+    ensures value { result ≡ first_from (in_either sides.now arc) 0 (length sides.now) }
+    ensures low { result ≤ length sides.now }
 {
     let low = sides[arc + arc].low;
     let other = sides[arc + arc + 1].low;
-    for k in 0..used {
-        if stands_in(sides[k], k, arc, low, other) {
-            return k;
-        }
-    }
-    used
+    sides
+        .iter()
+        .enumerate()
+        .position(|(k, side)| k / 2 != arc && (side.low == low || side.low == other))
+        .unwrap_or(sides.len())
 }
 
 // Where a ring leads on that led to a side of an arc: to what came after the other side, and where that one is alone, to what came after the side itself.
@@ -44,9 +35,10 @@ fn onward(next: u32, across: u32, other: u32) -> u32
 }
 
 // How the two rings of an arc's sides become one.
-fn merging_where(sides: &[Side], used: usize, arc: usize) -> Merging
-    requires { (used ≤ length sides.now) × ((used ≤ 32768) × (arc + arc + 1 < used)) }
-    ensures { result ≡ merging (take used sides.now) arc }
+fn merging_where(sides: &[Side], arc: usize) -> Merging
+    requires few { length sides.now ≤ 32768 }
+    requires here { arc + arc + 1 < length sides.now }
+    ensures { result ≡ merging sides.now arc }
 {
     let unturned = sides[arc + arc];
     let turned = sides[arc + arc + 1];
@@ -57,109 +49,69 @@ fn merging_where(sides: &[Side], used: usize, arc: usize) -> Merging
         past_turned: onward(turned.next, unturned.next, side),
         low_unturned: unturned.low,
         low_turned: turned.low,
-        low: lowest_left(sides, used, arc) as u32,
-        polygon: lower_of(unturned.polygon, turned.polygon),
+        low: lowest_left(sides, arc) as u32,
+        polygon: unturned.polygon.min(turned.polygon),
     }
 }
 
-// A table of sides once an arc has left both its rings, for a node of its own.
-fn set_free<'a>(table: Table<'a, Side>, arc: usize, node: u32, rings: Merging) -> Table<'a, Side>
-    requires { (rings ≡ merging (take table.used table.rows.now) arc) × ((arc + arc + 1 < table.used) × ((table.used ≤ 32768) × (table.used ≤ length table.rows.now))) }
-    ensures { Replaced table.entry result (freed (take table.entry.used table.entry.rows.now) node arc) }
-{
-    let Table { rows, used } = table;
-    let unturned = rows[arc + arc];
-    let turned = rows[arc + arc + 1];
-    let side = (arc + arc) as u32;
-    merge(rows, used, rings);
-    rows[arc + arc] = Side {
-        node,
-        row: unturned.row,
-        polygon: unturned.polygon,
-        next: side,
-        low: side,
-    };
-    rows[arc + arc + 1] = Side {
-        node,
-        row: turned.row,
-        polygon: turned.polygon,
-        next: side + 1,
-        low: side + 1,
-    };
-    Table { rows, used }
-}
-
-// How many polygons are left under changed numbers.
-fn polygons_under(numbers: Renumbering, polygons: usize) -> usize
-    requires { 0 < polygons }
-    ensures { result ≡ (if nat_eq numbers.polygon numbers.into then polygons else polygons - 1) }
-{
-    if numbers.polygon == numbers.into {
-        polygons
-    } else {
-        polygons - 1
+impl Side {
+    // The row of a side that is a ring alone, and begins at a node.
+    fn alone_at(self, node: u32, side: u32) -> Side
+        ensures { result ≡ alone_at node side self }
+    {
+        Side {
+            node,
+            next: side,
+            low: side,
+            ..self
+        }
     }
 }
 
-// A table whose first two free rows are as they were before.
-fn put_back<'a>(table: Table<'a, Side>, unturned: Side, turned: Side) -> Table<'a, Side>
-    requires { table.used + 1 < length table.rows.now }
-    ensures { PutBack table.entry result unturned turned }
-{
-    let Table { rows, used } = table;
-    rows[used] = unturned;
-    rows[used + 1] = turned;
-    Table { rows, used }
+impl<'a> Table<'a, Side> {
+    // Has an arc leave both its rings, for a node of its own.
+    fn set_free(&mut self, arc: usize, node: u32)
+        requires here { arc + arc + 1 < self.old.used }
+        requires few { self.old.used ≤ 32768 }
+        ensures { Holds self.old self.new (freed (take self.old.used self.old.rows.now) node arc) }
+    {
+        let rows = &mut self.rows[..self.used];
+        let unturned = rows[arc + arc];
+        let turned = rows[arc + arc + 1];
+        let side = (arc + arc) as u32;
+        let rings = merging_where(rows, arc);
+        merge(rows, rings);
+        rows[arc + arc] = unturned.alone_at(node, side);
+        rows[arc + arc + 1] = turned.alone_at(node, side + 1);
+    }
+
+    // Puts the first two free rows back as they were before.
+    fn put_back(&mut self, unturned: Side, turned: Side)
+        requires { self.old.used + 1 < length self.old.rows.now }
+        ensures { PutBack self.old self.new unturned turned }
+    {
+        self.rows[self.used] = unturned;
+        self.rows[self.used + 1] = turned;
+    }
 }
 
 impl<'a> Map<'a> {
-    // Whether both sides of an arc stand in one ring: by the law, exactly if they have one lowest side.
-    fn shares_a_ring(&self, arc: usize) -> bool
-        requires { arc < arc_count (state_of self.now) }
-        ensures { result ≡ share_ring (state_of self.now).sides arc }
+    // Takes an arc away whose sides stand in two rings that are not both alone.
+    fn dissolve_arc(&mut self, arc: usize)
+        requires here { arc < arc_count (state_of self.old) }
+        requires apart { share_ring (state_of self.old).sides arc ≡ false }
+        requires some { both_alone (state_of self.old).sides arc ≡ false }
+        ensures done { Done (λ m. dissolve_outcome m arc) self.old self.new }
+        ensures rings { RingsMerged (state_of self.old) (state_of self.new) arc }
+        ensures sum { Rises 0 (state_of self.old) (state_of self.new) }
     {
-        self.sides.rows[arc + arc].low == self.sides.rows[arc + arc + 1].low
-    }
-
-    // Whether each side of an arc is a ring alone: by the law, exactly if the arc is closed at a node of its own.
-    fn are_rings_alone(&self, arc: usize) -> bool
-        requires { arc < arc_count (state_of self.now) }
-        ensures { result ≡ both_alone (state_of self.now).sides arc }
-    {
-        self.is_closed_alone(arc)
-    }
-
-    // How the two rings of an arc's sides become one.
-    fn merging(&self, arc: usize) -> Merging
-        requires { arc < arc_count (state_of self.now) }
-        ensures { result ≡ merging (state_of self.now).sides arc }
-    {
-        merging_where(self.sides.rows, self.sides.used, arc)
-    }
-
-    // The map without an arc whose sides stand in two rings, by value.
-    fn dissolved(self, arc: usize, rings: Merging) -> Map<'a>
-        requires { (rings ≡ merging (state_of self).sides arc) × ((arc < arc_count (state_of self)) × ((share_ring (state_of self).sides arc ≡ false) × (both_alone (state_of self).sides arc ≡ false))) }
-        ensures done { Done (λ m. dissolve_outcome m arc) self.entry result }
-        ensures rings { RingsMerged (state_of self.entry) (state_of result) arc }
-        ensures sum { Rises 0 (state_of self.entry) (state_of result) }
-    {
-        let Map {
-            hand,
-            sides,
-            vertices,
-            nodes,
-            polygons,
-        } = self;
-        let Table { rows, used } = sides;
-        let last_unturned = rows[used - 2];
-        let last_turned = rows[used - 1];
-        let Table { rows, used } = set_free(Table { rows, used }, arc, nodes as u32, rings);
-        let numbers = numbers_where(rows, used, nodes + 1, polygons, arc);
-        let left = polygons_under(numbers, polygons);
-        let sides = without(Table { rows, used }, arc, numbers);
-        let sides = put_back(sides, last_unturned, last_turned);
-        assembled(hand, sides, vertices, nodes, left)
+        let last_unturned = self.sides.rows[self.sides.used - 2];
+        let last_turned = self.sides.rows[self.sides.used - 1];
+        self.sides.set_free(arc, self.nodes as u32);
+        let numbers = numbers_where(self.sides.in_use(), self.nodes + 1, self.polygons, arc);
+        self.sides.remove(arc, numbers);
+        self.sides.put_back(last_unturned, last_turned);
+        self.polygons = numbers.polygons_left(self.polygons);
     }
 
     /// Takes an arc away, and the rings of its two sides become one: the sides after one of them, then the sides after the other; two different polygons merge into the lower number, which gets all rings left. The highest number of each kind fills the gap; no node goes.
@@ -169,20 +121,16 @@ impl<'a> Map<'a> {
         ensures sum { OnOk result (Rises 0 (state_of self.old) (state_of self.new)) }
         ensures rings { OnOk result (RingsMerged (state_of self.old) (state_of self.new) arc) }
     {
-        if arc >= self.sides.used / 2 {
+        if arc >= self.arcs() {
             return Err(Refusal::NoSuchElement);
         }
-        if self.shares_a_ring(arc) {
+        if self.share_ring(arc + arc, arc + arc + 1) {
             return Err(Refusal::SidesShareRing);
         }
-        if self.are_rings_alone(arc) {
+        if self.is_closed_alone(arc) {
             return Err(Refusal::RingsAlone);
         }
-        let rings = self.merging(arc);
-        let hand = self.hand;
-        let taken = std::mem::replace(self, Map::start(hand, &mut [], &mut []));
-        let next = taken.dissolved(arc, rings);
-        let _blank = std::mem::replace(self, next);
+        self.dissolve_arc(arc);
         Ok(())
     }
 }

@@ -1,5 +1,5 @@
 /// The side of an arc where an unturned side's polygon lies.
-#[derive(Clone, Copy)]
+#[derive(Clone, Copy, PartialEq, Eq, Debug)]
 pub enum Hand {
     Right,
     Left,

@@ -4,7 +4,6 @@ ghost use Rattle.topology.specs.Edited.{Edited, Done};
 ghost use Rattle.topology.specs.Questions.{rings_of, Rises};
 ghost use Rattle.topology.specs.Islands.{closed_run, arc_room, vertex_room, island_outcome};
 
-use super::assembled::assembled;
 use super::map::Map;
 use super::runs::closes;
 use super::side::Side;
@@ -24,42 +23,37 @@ impl<'a> Map<'a> {
             && vertices <= self.vertices.rows.len() - v
     }
 
-    // The map with an island more, by value.
-    fn islanded(self, polygon: usize, run: &[Vertex]) -> Map<'a>
-        requires { (polygon < self.polygons) × ((closed_run run.now ≡ true) × ((arc_room (state_of self) && vertex_room (state_of self) (length run.now)) ≡ true)) }
-        ensures done { Done (λ m. island_outcome m polygon run.now) self.entry result }
-        ensures rings { length (rings_of (state_of result)) ≡ length (rings_of (state_of self.entry)) + 2 }
-        ensures counts { (result.nodes ≡ self.entry.nodes + 1) × (result.sides.used ≡ self.entry.sides.used + 2) }
+    // Adds an island of a run that makes a closed arc.
+    fn add_island(&mut self, polygon: usize, run: &[Vertex])
+        requires known { polygon < self.old.polygons }
+        requires closed { closed_run run.now ≡ true }
+        requires room { (arc_room (state_of self.old) && vertex_room (state_of self.old) (length run.now)) ≡ true }
+        ensures done { Done (λ m. island_outcome m polygon run.now) self.old self.new }
+        ensures rings { length (rings_of (state_of self.new)) ≡ length (rings_of (state_of self.old)) + 2 }
+        ensures counts { (self.new.nodes ≡ self.old.nodes + 1) × (self.new.sides.used ≡ self.old.sides.used + 2) }
     {
-        let Map {
-            hand,
-            sides,
-            vertices,
-            nodes,
-            polygons,
-        } = self;
-        let n = sides.used as u32;
-        let first = vertices.used as u32;
+        let n = self.sides.used as u32;
+        let first = self.vertices.used as u32;
         let last = first + (run.len() as u32 - 1);
-        let node = nodes as u32;
         let unturned = Side {
-            node,
+            node: self.nodes as u32,
             row: first,
-            polygon: polygons as u32,
+            polygon: self.polygons as u32,
             next: n,
             low: n,
         };
         let turned = Side {
-            node,
             row: last,
             polygon: polygon as u32,
             next: n + 1,
             low: n + 1,
+            ..unturned
         };
-        let sides = sides.push(unturned);
-        let sides = sides.push(turned);
-        let vertices = vertices.push_run(run);
-        assembled(hand, sides, vertices, nodes + 1, polygons + 1)
+        self.sides.push(unturned);
+        self.sides.push(turned);
+        self.vertices.push_run(run);
+        self.nodes += 1;
+        self.polygons += 1;
     }
 
     /// Adds a node, a closed arc with the run's vertices, and a polygon on its unturned side; the named polygon has the turned side, and each side is a ring alone.
@@ -77,10 +71,7 @@ impl<'a> Map<'a> {
         if !self.has_room(run.len()) {
             return Err(Refusal::NoRoom);
         }
-        let hand = self.hand;
-        let taken = std::mem::replace(self, Map::start(hand, &mut [], &mut []));
-        let next = taken.islanded(polygon, run);
-        let _blank = std::mem::replace(self, next);
+        self.add_island(polygon, run);
         Ok(())
     }
 }

@@ -2,7 +2,6 @@
 #![tactic(auto)]
 
 pub mod arc_side;
-mod assembled;
 mod dissolves;
 mod dividing;
 mod divisions;
@@ -13,6 +12,7 @@ pub mod map;
 pub mod merging;
 pub mod questions;
 pub mod renumbering;
+mod rows;
 mod runs;
 pub mod side;
 mod splits;

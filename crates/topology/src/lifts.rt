@@ -1,95 +1,101 @@
-ghost use Rattle.std.specs.Prelude.{◌≡◌, ℕ, ◌+◌, ◌-◌, ◌/◌, ◌%◌, ◌<◌, ◌≤◌, true, not, ◌&&◌, ◌||◌, length, take, OnOk, ◌==◌};
+ghost use Rattle.std.specs.Prelude.{◌≡◌, ℕ, ◌+◌, ◌-◌, ◌/◌, ◌%◌, ◌<◌, ◌≤◌, true, ◌&&◌, map, length, take, if◌then◌else◌, OnOk, nat_eq};
 ghost use Rattle.topology.specs.States.{state_of};
 ghost use Rattle.topology.specs.Edited.{Edited, Done};
 ghost use Rattle.topology.specs.Questions.{arc_count, rings_of, Rises};
-ghost use Rattle.topology.specs.Tables.{Shrunk};
+ghost use Rattle.topology.specs.Tables.{Holds};
 ghost use Rattle.topology.specs.Renumbered.{renumbered};
-ghost use Rattle.topology.specs.Lifts.{closed_alone, other_under, ring_left, polygons_left, lift_numbers, lift_outcome};
+ghost use Rattle.topology.specs.Lifts.{closed_alone, other_under, ring_left, lift_numbers, rows_without, lift_outcome};
+ghost use Rattle.topology.specs.Dissolves.{both_alone};
 
-use super::assembled::assembled;
 use super::map::Map;
-use super::renumbering::{Renumbering, higher_of, lower_of, renumber};
+use super::renumbering::{Renumbering, renumber};
 use super::side::Side;
 use super::table::Table;
 use refusal::Refusal;
 
-// Whether a side is one of another arc, under one of two polygons.
-fn stands_under(side: Side, at: usize, arc: usize, p: u32, q: u32) -> bool
-    ensures { result ≡ (not (at / 2 == arc) && (side.polygon == p || side.polygon == q)) }
-{
-    at / 2 != arc && (side.polygon == p || side.polygon == q)
-}
-
 // Whether some side of another arc stands under one of two polygons.
-fn has_other_under(sides: &[Side], used: usize, arc: usize, p: u32, q: u32) -> bool
-    requires { used ≤ length sides.now }
-    ensures { result ≡ other_under (take used sides.now) arc p q used }
+fn has_other_under(sides: &[Side], arc: usize, p: u32, q: u32) -> bool
+    ensures { result ≡ other_under sides.now arc p q (length sides.now) }
 {
-    for s in 0..used {
-        if stands_under(sides[s], s, arc, p, q) {
-            return true;
-        }
-    }
-    false
+    sides.iter().enumerate().any(|(s, side)| s / 2 != arc
+        && (side.polygon == p || side.polygon == q))
 }
 
 // The numbers that change where an arc goes.
 pub(crate) fn numbers_where(
     sides: &[Side],
-    used: usize,
     nodes: usize,
     polygons: usize,
     arc: usize,
 ) -> Renumbering
-    requires { (used ≤ length sides.now) × ((used ≤ 32768) × ((arc + arc + 1 < used) × (((0 < nodes) × (nodes ≤ used)) × ((0 < polygons) × (polygons ≤ used + 1))))) }
-    ensures { result ≡ lift_numbers (take used sides.now) nodes polygons arc }
+    requires few { length sides.now ≤ 32768 }
+    requires here { arc + arc + 1 < length sides.now }
+    requires some_node { 0 < nodes }
+    requires nodes_few { nodes ≤ length sides.now }
+    requires some_polygon { 0 < polygons }
+    requires polygons_few { polygons ≤ length sides.now + 1 }
+    ensures { result ≡ lift_numbers sides.now nodes polygons arc }
 {
+    let n = sides.len();
     let unturned = sides[arc + arc];
-    let turned = sides[arc + arc + 1];
     let p = unturned.polygon;
-    let q = turned.polygon;
+    let q = sides[arc + arc + 1].polygon;
     Renumbering {
         side: (arc + arc) as u32,
-        last_side: (used - 2) as u32,
+        last_side: (n - 2) as u32,
         node: unturned.node,
         last_node: (nodes - 1) as u32,
-        polygon: higher_of(p, q),
-        into: lower_of(p, q),
+        polygon: p.max(q),
+        into: p.min(q),
         last_polygon: if p == q { p } else { (polygons - 1) as u32 },
-        low_unturned: sides[used - 2].low,
-        low_turned: sides[used - 1].low,
+        low_unturned: sides[n - 2].low,
+        low_turned: sides[n - 1].low,
     }
 }
 
-// A table of sides without those of an arc: the last two rows take their place, and all change their numbers.
-pub(crate) fn without<'a>(
-    table: Table<'a, Side>,
-    arc: usize,
-    numbers: Renumbering,
-) -> Table<'a, Side>
-    requires { (arc + arc + 1 < table.used) × ((table.used % 2 ≡ 0) × ((table.used ≤ length table.rows.now) × ((numbers.side < 32768) × (numbers.last_side < 32768)))) }
-    ensures { Shrunk (renumbered numbers) table.entry result arc }
-{
-    let Table { rows, used } = table;
-    let unturned = rows[used - 2];
-    let turned = rows[used - 1];
-    rows[arc + arc] = unturned;
-    rows[arc + arc + 1] = turned;
-    renumber(rows, used - 2, numbers);
-    Table {
-        rows,
-        used: used - 2,
+impl Renumbering {
+    // How many polygons are left.
+    pub(crate) fn polygons_left(self, polygons: usize) -> usize
+        requires { 0 < polygons }
+        ensures { result ≡ (if nat_eq self.polygon self.into then polygons else polygons - 1) }
+    {
+        if self.polygon == self.into {
+            polygons
+        } else {
+            polygons - 1
+        }
+    }
+}
+
+impl<'a> Table<'a, Side> {
+    // Takes the sides of an arc away: the last two rows take their place, and all change their numbers.
+    pub(crate) fn remove(&mut self, arc: usize, numbers: Renumbering)
+        requires here { arc + arc + 1 < self.old.used }
+        requires even { self.old.used % 2 ≡ 0 }
+        requires side_few { numbers.side < 32768 }
+        requires last_few { numbers.last_side < 32768 }
+        ensures { Holds self.old self.new (map (renumbered numbers) (rows_without (take self.old.used self.old.rows.now) arc)) }
+    {
+        let unturned = self.rows[self.used - 2];
+        let turned = self.rows[self.used - 1];
+        self.rows[arc + arc] = unturned;
+        self.rows[arc + arc + 1] = turned;
+        self.used -= 2;
+        renumber(&mut self.rows[..self.used], numbers);
     }
 }
 
 impl<'a> Map<'a> {
+    // Stays: that there is such an arc is a condition here and in the other private functions on arcs. A type of the numbers of arcs would hold for one state of one map, and each edit would make it anew.
     // Whether an arc is closed at a node of its own: by the law, exactly if each of its sides is its own next.
     pub(crate) fn is_closed_alone(&self, arc: usize) -> bool
         requires { arc < arc_count (state_of self.now) }
-        ensures { result ≡ closed_alone (state_of self.now).sides arc }
+        ensures closed { result ≡ closed_alone (state_of self.now).sides arc }
+        ensures alone { result ≡ both_alone (state_of self.now).sides arc }
     {
+        let sides = self.sides.in_use();
         let s = arc + arc;
-        self.sides.rows[s].next as usize == s && self.sides.rows[s + 1].next as usize == s + 1
+        sides[s].next as usize == s && sides[s + 1].next as usize == s + 1
     }
 
     // Whether the polygon that is left once an arc goes is 0 or has a ring.
@@ -97,46 +103,25 @@ impl<'a> Map<'a> {
         requires { arc < arc_count (state_of self.now) }
         ensures { result ≡ ring_left (state_of self.now).sides arc }
     {
-        let p = self.sides.rows[arc + arc].polygon;
-        let q = self.sides.rows[arc + arc + 1].polygon;
-        lower_of(p, q) == 0 || has_other_under(self.sides.rows, self.sides.used, arc, p, q)
+        let sides = self.sides.in_use();
+        let p = sides[arc + arc].polygon;
+        let q = sides[arc + arc + 1].polygon;
+        p.min(q) == 0 || has_other_under(sides, arc, p, q)
     }
 
-    // The numbers that change where an arc goes.
-    fn lift_numbers(&self, arc: usize) -> Renumbering
-        requires { arc < arc_count (state_of self.now) }
-        ensures { result ≡ lift_numbers (state_of self.now).sides self.now.nodes self.now.polygons arc }
+    // Takes a closed arc away that stands alone and leaves a ring.
+    fn lift_arc(&mut self, arc: usize)
+        requires here { arc < arc_count (state_of self.old) }
+        requires alone { closed_alone (state_of self.old).sides arc ≡ true }
+        requires leaves { ring_left (state_of self.old).sides arc ≡ true }
+        ensures done { Done (λ m. lift_outcome m arc) self.old self.new }
+        ensures rings { length (rings_of (state_of self.new)) + 2 ≡ length (rings_of (state_of self.old)) }
+        ensures counts { (self.new.nodes + 1 ≡ self.old.nodes) × (self.new.sides.used + 2 ≡ self.old.sides.used) }
     {
-        numbers_where(
-            self.sides.rows,
-            self.sides.used,
-            self.nodes,
-            self.polygons,
-            arc,
-        )
-    }
-
-    // The map without an arc, by value.
-    fn lifted(self, arc: usize, numbers: Renumbering) -> Map<'a>
-        requires { (numbers ≡ lift_numbers (state_of self).sides self.nodes self.polygons arc) × ((arc < arc_count (state_of self)) × ((closed_alone (state_of self).sides arc ≡ true) × (ring_left (state_of self).sides arc ≡ true))) }
-        ensures done { Done (λ m. lift_outcome m arc) self.entry result }
-        ensures rings { length (rings_of (state_of result)) + 2 ≡ length (rings_of (state_of self.entry)) }
-        ensures counts { (result.nodes + 1 ≡ self.entry.nodes) × (result.sides.used + 2 ≡ self.entry.sides.used) }
-    {
-        let Map {
-            hand,
-            sides,
-            vertices,
-            nodes,
-            polygons,
-        } = self;
-        let left = if numbers.polygon == numbers.into {
-            polygons
-        } else {
-            polygons - 1
-        };
-        let sides = without(sides, arc, numbers);
-        assembled(hand, sides, vertices, nodes - 1, left)
+        let numbers = numbers_where(self.sides.in_use(), self.nodes, self.polygons, arc);
+        self.sides.remove(arc, numbers);
+        self.nodes -= 1;
+        self.polygons = numbers.polygons_left(self.polygons);
     }
 
     /// Takes a closed arc, its node and both its rings away; two different polygons merge into the lower number, which gets all rings left. The highest number of each kind fills the gap.
@@ -145,7 +130,7 @@ impl<'a> Map<'a> {
         ensures edited { Edited (λ m. lift_outcome m arc) self.old self.new result }
         ensures sum { OnOk result (Rises 2 (state_of self.new) (state_of self.old)) }
     {
-        if arc >= self.sides.used / 2 {
+        if arc >= self.arcs() {
             return Err(Refusal::NoSuchElement);
         }
         if !self.is_closed_alone(arc) {
@@ -154,11 +139,7 @@ impl<'a> Map<'a> {
         if !self.leaves_a_ring(arc) {
             return Err(Refusal::PolygonLosesLastRing);
         }
-        let numbers = self.lift_numbers(arc);
-        let hand = self.hand;
-        let taken = std::mem::replace(self, Map::start(hand, &mut [], &mut []));
-        let next = taken.lifted(arc, numbers);
-        let _blank = std::mem::replace(self, next);
+        self.lift_arc(arc);
         Ok(())
     }
 }

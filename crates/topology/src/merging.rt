@@ -1,6 +1,7 @@
-ghost use Rattle.std.specs.Prelude.{◌≡◌, ℕ, ◌+◌, ◌<◌, ◌≤◌, ◌++◌, map, length, take, drop};
+ghost use Rattle.std.specs.Prelude.{◌≡◌, ℕ, ◌+◌, ◌<◌, map};
 ghost use Rattle.topology.specs.Merged.{led_on, merged};
 
+use super::rows::change_each;
 use super::side::Side;
 
 /// How the two rings of an arc's sides become one, where the arc leaves them.
@@ -40,23 +41,23 @@ impl Merging {
         ensures { result ≡ merged self side }
     {
         let next = self.past(side.next);
-        let merges = side.low == self.low_unturned || side.low == self.low_turned;
-        Side {
-            node: side.node,
-            row: side.row,
-            polygon: if merges { self.polygon } else { side.polygon },
-            next,
-            low: if merges { self.low } else { side.low },
+        if side.low == self.low_unturned || side.low == self.low_turned {
+            Side {
+                polygon: self.polygon,
+                next,
+                low: self.low,
+                ..side
+            }
+        } else {
+            Side { next, ..side }
         }
     }
 }
 
-// The first rows of a table, once the two rings are one.
-pub(crate) fn merge(rows: &mut [Side], used: usize, rings: Merging)
-    requires { (used ≤ length rows.old) × (rings.side < 32768) }
-    ensures { rows.new ≡ map (merged rings) (take used rows.old) ++ drop used rows.old }
+// The rows, once the two rings are one.
+pub(crate) fn merge(rows: &mut [Side], rings: Merging)
+    requires { rings.side < 32768 }
+    ensures { rows.new ≡ map (merged rings) rows.old }
 {
-    for i in 0..used {
-        rows[i] = rings.row(rows[i]);
-    }
+    change_each(rows, |side| rings.row(side));
 }

@@ -43,10 +43,11 @@ impl<'a> Map<'a> {
     pub(crate) fn side(&self, side: usize) -> Result<Side, Refusal>
         ensures { result ≡ side_row (state_of self.now) side }
     {
-        if side >= self.sides.used {
-            return Err(Refusal::NoSuchElement);
-        }
-        Ok(self.sides.rows[side])
+        self.sides
+            .in_use()
+            .get(side)
+            .copied()
+            .ok_or(Refusal::NoSuchElement)
     }
 
     /// The polygon of a side. 20 when there is no such side.
@@ -88,11 +89,12 @@ impl<'a> Map<'a> {
         ensures value { result ≡ arc_rows (state_of self.now) arc }
         ensures stands { IfOk result (λ p. (p.0 < p.1) × (p.1 < length (state_of self.now).vertices)) }
     {
-        if arc >= self.sides.used / 2 {
+        if arc >= self.arcs() {
             return Err(Refusal::NoSuchElement);
         }
-        let first = self.sides.rows[arc + arc].row;
-        let last = self.sides.rows[arc + arc + 1].row;
+        let sides = self.sides.in_use();
+        let first = sides[arc + arc].row;
+        let last = sides[arc + arc + 1].row;
         Ok((first as usize, last as usize))
     }
 
@@ -112,7 +114,7 @@ impl<'a> Map<'a> {
         if k > last - first {
             return Err(Refusal::NoSuchElement);
         }
-        Ok(self.vertices.rows[first + k])
+        Ok(self.vertices.in_use()[first + k])
     }
 
     /// How many rings there are: as many as in the list of rings, which has every side once, and as many however the sides are parted into circles.
@@ -121,16 +123,18 @@ impl<'a> Map<'a> {
         ensures listed { RingsListed (state_of self.now) }
         ensures parted { HoweverParted (state_of self.now) result }
     {
-        count_starts(self.sides.rows, self.sides.used)
+        count_starts(self.sides.in_use())
     }
 
     /// The polygon and the lowest side of the k-th ring; rings rise by lowest side. 20 when there are not so many.
     pub fn ring(&self, k: usize) -> Result<(usize, usize), Refusal>
         ensures { result ≡ ring_at (state_of self.now) k }
     {
-        let Some(s) = find_start(self.sides.rows, self.sides.used, k) else {
+        let sides = self.sides.in_use();
+        // Stays: after `ok_or` and `?` the proof no longer knows that the side is in use.
+        let Some(s) = find_start(sides, k) else {
             return Err(Refusal::NoSuchElement);
         };
-        Ok((self.sides.rows[s].polygon as usize, s))
+        Ok((sides[s].polygon as usize, s))
     }
 }

@@ -1,7 +1,8 @@
-ghost use Rattle.std.specs.Prelude.{◌≡◌, ℕ, ◌+◌, ◌<◌, ◌≤◌, ◌++◌, map, length, take, drop};
+ghost use Rattle.std.specs.Prelude.{◌≡◌, ℕ, ◌+◌, ◌<◌, map};
 ghost use Rattle.rings.specs.Edits.{fill};
-ghost use Rattle.topology.specs.Renumbered.{lower, higher, renumbered};
+ghost use Rattle.topology.specs.Renumbered.{renumbered};
 
+use super::rows::change_each;
 use super::side::Side;
 
 /// The numbers that change where an arc goes, and what goes with it: the highest number of each kind fills the gap.
@@ -29,36 +30,22 @@ fn fill(gap: u32, highest: u32, k: u32) -> u32
     if k == highest { gap } else { k }
 }
 
-// The lower of two numbers.
-pub(crate) fn lower_of(p: u32, q: u32) -> u32
-    ensures { result ≡ lower p q }
-{
-    if p <= q { p } else { q }
-}
-
-// The higher of two numbers.
-pub(crate) fn higher_of(p: u32, q: u32) -> u32
-    ensures { result ≡ higher p q }
-{
-    if p <= q { q } else { p }
-}
-
 impl Renumbering {
     // A row under the changed numbers.
-    pub(crate) fn row(self, side: Side) -> Side
-        requires { (self.side < 32768) × (self.last_side < 32768) }
+    fn row(self, side: Side) -> Side
+        requires side_few { self.side < 32768 }
+        requires last_few { self.last_side < 32768 }
         ensures { result ≡ renumbered self side }
     {
         let low = if side.low == self.low_unturned {
-            lower_of(self.low_unturned, self.side)
+            self.low_unturned.min(self.side)
         } else if side.low == self.low_turned {
-            lower_of(self.low_turned, self.side + 1)
+            self.low_turned.min(self.side + 1)
         } else {
             side.low
         };
         Side {
             node: fill(self.node, self.last_node, side.node),
-            row: side.row,
             polygon: fill(
                 self.polygon,
                 self.last_polygon,
@@ -70,16 +57,16 @@ impl Renumbering {
                 fill(self.side + 1, self.last_side + 1, side.next),
             ),
             low,
+            ..side
         }
     }
 }
 
-// The first rows of a table, under the changed numbers.
-pub(crate) fn renumber(rows: &mut [Side], used: usize, numbers: Renumbering)
-    requires { (used ≤ length rows.old) × ((numbers.side < 32768) × (numbers.last_side < 32768)) }
-    ensures { rows.new ≡ map (renumbered numbers) (take used rows.old) ++ drop used rows.old }
+// The rows under the changed numbers.
+pub(crate) fn renumber(rows: &mut [Side], numbers: Renumbering)
+    requires side_few { numbers.side < 32768 }
+    requires last_few { numbers.last_side < 32768 }
+    ensures { rows.new ≡ map (renumbered numbers) rows.old }
 {
-    for i in 0..used {
-        rows[i] = numbers.row(rows[i]);
-    }
+    change_each(rows, |side| numbers.row(side));
 }

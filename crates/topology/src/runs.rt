@@ -16,7 +16,7 @@ impl Vertex {
     pub fn shares_place(self, other: Vertex) -> bool
         ensures { result ≡ same_place self other }
     {
-        self.x == other.x && self.y == other.y
+        self == other
     }
 }
 
@@ -24,18 +24,12 @@ impl Vertex {
 pub(crate) fn all_finite(run: &[Vertex]) -> bool
     ensures { result ≡ all_good run.now }
 {
-    for i in 0..run.len() {
-        if !run[i].is_finite() {
-            return false;
-        }
-    }
-    true
+    run.iter().all(|vertex| vertex.is_finite())
 }
 
 // Whether a run makes a closed arc.
 pub(crate) fn closes(run: &[Vertex]) -> bool
     ensures { result ≡ closed_run run.now }
 {
-    let n = run.len();
-    n >= 4 && run[0].shares_place(run[n - 1]) && all_finite(run)
+    run.len() >= 4 && run.first() == run.last() && all_finite(run)
 }

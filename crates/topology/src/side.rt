@@ -1,5 +1,5 @@
 /// A side of an arc, as the caller's table holds it.
-#[derive(Clone, Copy)]
+#[derive(Clone, Copy, PartialEq, Eq, Debug, Default)]
 pub struct Side {
     /// the node where the side begins
     pub node: u32,

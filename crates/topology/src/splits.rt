@@ -2,64 +2,52 @@ ghost use Rattle.std.specs.Prelude.{◌≡◌, ◌+◌, ◌-◌, ◌/◌, ◌%�
 ghost use Rattle.topology.specs.MapLaw.{InRings, InTurns};
 ghost use Rattle.topology.specs.States.{state_of};
 ghost use Rattle.topology.specs.Edited.{Edited, Done};
+ghost use Rattle.topology.specs.Tables.{Holds};
 ghost use Rattle.topology.specs.Questions.{arc_count, rings_of, Rises};
 ghost use Rattle.topology.specs.Islands.{arc_room, vertex_room};
-ghost use Rattle.topology.specs.Splits.{inside, leading, beginning, Parted, split_outcome, Parts};
+ghost use Rattle.topology.specs.Splits.{inside, leading, beginning, split_sides, split_outcome, Parts};
 
-use super::assembled::assembled;
 use super::map::Map;
 use super::side::Side;
 use super::table::Table;
 use super::walks::before;
 use refusal::Refusal;
 
-impl Side {
-    // The row with another next side.
-    fn leading(self, next: u32) -> Side
-        ensures { result ≡ leading next self }
+impl<'a> Table<'a, Side> {
+    // Parts an arc at a new node: its sides, and those of a new arc.
+    fn part(&mut self, arc: usize, node: u32, row: u32)
+        requires ringed { InRings (take self.old.used self.old.rows.now) self.old.used }
+        requires turned { InTurns (take self.old.used self.old.rows.now) self.old.used }
+        requires even { self.old.used % 2 ≡ 0 }
+        requires here { arc + arc + 1 < self.old.used }
+        requires room { self.old.used + 2 ≤ length self.old.rows.now }
+        requires few { self.old.used + 2 ≤ 32768 }
+        ensures { Holds self.old self.new (split_sides (take self.old.used self.old.rows.now) node arc row) }
     {
-        Side {
-            node: self.node,
-            row: self.row,
-            polygon: self.polygon,
-            next,
-            low: self.low,
-        }
-    }
-
-    // The row with another beginning.
-    fn beginning(self, node: u32, row: u32) -> Side
-        ensures { result ≡ beginning node row self }
-    {
-        Side {
+        let unturned = arc + arc;
+        let turned = unturned + 1;
+        let n = self.used as u32;
+        let o = turned as u32;
+        let last = Side {
+            next: o,
+            ..self.rows[turned]
+        };
+        let p = before(self.in_use(), o) as usize;
+        self.rows[p].next = n + 1;
+        let first = Side {
             node,
             row,
-            polygon: self.polygon,
-            next: self.next,
-            low: self.low,
-        }
+            ..self.rows[unturned]
+        };
+        self.rows[unturned].next = n;
+        self.rows[turned] = Side {
+            node,
+            row,
+            ..self.rows[turned]
+        };
+        self.push(first);
+        self.push(last);
     }
-}
-
-// A table of sides with those of an arc parted at a new node.
-fn parted<'a>(table: Table<'a, Side>, arc: usize, node: u32, row: u32) -> Table<'a, Side>
-    requires { (InRings (take table.used table.rows.now) table.used) × ((InTurns (take table.used table.rows.now) table.used) × ((table.used % 2 ≡ 0) × ((arc + arc + 1 < table.used) × ((table.used + 2 ≤ length table.rows.now) × (table.used + 2 ≤ 32768))))) }
-    ensures { Parted table.entry result arc node row }
-{
-    let Table { rows, used } = table;
-    let unturned = arc + arc;
-    let turned = unturned + 1;
-    let n = used as u32;
-    let o = turned as u32;
-    let last = rows[turned].leading(o);
-    let p = before(rows, used, o) as usize;
-    rows[p] = rows[p].leading(n + 1);
-    let first = rows[unturned].beginning(node, row);
-    rows[unturned] = rows[unturned].leading(n);
-    rows[turned] = rows[turned].beginning(node, row);
-    let sides = Table { rows, used };
-    let sides = sides.push(first);
-    sides.push(last)
 }
 
 impl<'a> Map<'a> {
@@ -68,31 +56,27 @@ impl<'a> Map<'a> {
         requires { arc < arc_count (state_of self.now) }
         ensures { result ≡ inside (state_of self.now).sides arc k }
     {
-        let first = self.sides.rows[arc + arc].row as usize;
-        let last = self.sides.rows[arc + arc + 1].row as usize;
+        let sides = self.sides.in_use();
+        let first = sides[arc + arc].row as usize;
+        let last = sides[arc + arc + 1].row as usize;
         0 < k && k < last - first
     }
 
-    // The map with an arc parted, by value.
-    fn split_at(self, arc: usize, k: usize) -> Map<'a>
-        requires { (arc < arc_count (state_of self)) × ((inside (state_of self).sides arc k ≡ true) × ((arc_room (state_of self) && vertex_room (state_of self) 1) ≡ true)) }
-        ensures done { Done (λ m. split_outcome m arc k) self.entry result }
-        ensures parts { Parts (state_of self.entry) (state_of result) arc k }
-        ensures rings { length (rings_of (state_of result)) ≡ length (rings_of (state_of self.entry)) }
-        ensures counts { (result.nodes ≡ self.entry.nodes + 1) × (result.sides.used ≡ self.entry.sides.used + 2) }
+    // Parts an arc at a vertex inside it.
+    fn split_arc(&mut self, arc: usize, k: usize)
+        requires here { arc < arc_count (state_of self.old) }
+        requires within { inside (state_of self.old).sides arc k ≡ true }
+        requires room { (arc_room (state_of self.old) && vertex_room (state_of self.old) 1) ≡ true }
+        ensures done { Done (λ m. split_outcome m arc k) self.old self.new }
+        ensures parts { Parts (state_of self.old) (state_of self.new) arc k }
+        ensures rings { length (rings_of (state_of self.new)) ≡ length (rings_of (state_of self.old)) }
+        ensures counts { (self.new.nodes ≡ self.old.nodes + 1) × (self.new.sides.used ≡ self.old.sides.used + 2) }
     {
-        let Map {
-            hand,
-            sides,
-            vertices,
-            nodes,
-            polygons,
-        } = self;
-        let at = sides.rows[arc + arc].row as usize + k;
-        let sides = parted(sides, arc, nodes as u32, at as u32);
-        let vertex = vertices.rows[at];
-        let vertices = vertices.push(vertex);
-        assembled(hand, sides, vertices, nodes + 1, polygons)
+        let at = self.sides.rows[arc + arc].row as usize + k;
+        let vertex = self.vertices.rows[at];
+        self.sides.part(arc, self.nodes as u32, at as u32);
+        self.vertices.push(vertex);
+        self.nodes += 1;
     }
 
     /// Parts an arc at its vertex k by a new node, through which both its sides pass: the arc keeps the vertices up to k, and a new arc has them from k on.
@@ -102,7 +86,7 @@ impl<'a> Map<'a> {
         ensures sum { OnOk result (Rises 0 (state_of self.old) (state_of self.new)) }
         ensures parts { OnOk result (Parts (state_of self.old) (state_of self.new) arc k) }
     {
-        if arc >= self.sides.used / 2 {
+        if arc >= self.arcs() {
             return Err(Refusal::NoSuchElement);
         }
         if !self.is_inside(arc, k) {
@@ -111,10 +95,7 @@ impl<'a> Map<'a> {
         if !self.has_room(1) {
             return Err(Refusal::NoRoom);
         }
-        let hand = self.hand;
-        let taken = std::mem::replace(self, Map::start(hand, &mut [], &mut []));
-        let next = taken.split_at(arc, k);
-        let _blank = std::mem::replace(self, next);
+        self.split_arc(arc, k);
         Ok(())
     }
 }

@@ -1,34 +1,36 @@
-ghost use Rattle.std.specs.Prelude.{◌≡◌, ℕ, ◌+◌, ◌<◌, ◌≤◌, [], ◌∷◌, length};
+ghost use Rattle.std.specs.Prelude.{◌≡◌, ℕ, ◌+◌, ◌<◌, ◌≤◌, [], ◌∷◌, length, take};
 ghost use Rattle.topology.specs.Tables.{Grown};
 
 use super::table::Table;
 
 impl<'a, T> Table<'a, T> {
-    // One row more.
-    pub(crate) fn push(self, row: T) -> Table<'a, T>
-    where
-        T: Copy,
-        requires { self.used < length self.rows.now }
-        ensures { Grown self.entry result (row ∷ []) }
+    // The rows in use.
+    pub(crate) fn in_use(&self) -> &[T]
+        ensures { result.now ≡ take self.now.used self.now.rows.now }
     {
-        let Table { rows, used } = self;
-        rows[used] = row;
-        Table {
-            rows,
-            used: used + 1,
-        }
+        &self.rows[..self.used]
     }
 
-    // The rows of a run more.
-    pub(crate) fn push_run(self, run: &[T]) -> Table<'a, T>
+    // Adds a row.
+    pub(crate) fn push(&mut self, row: T)
     where
         T: Copy,
-        requires { self.used + length run.now ≤ length self.rows.now }
-        ensures { Grown self.entry result run.now }
+        requires { self.old.used < length self.old.rows.now }
+        ensures { Grown self.old self.new (row ∷ []) }
     {
-        let Table { rows, used } = self;
-        let end = used + run.len();
-        rows[used..end].copy_from_slice(run);
-        Table { rows, used: end }
+        self.rows[self.used] = row;
+        self.used += 1;
+    }
+
+    // Adds the rows of a run.
+    pub(crate) fn push_run(&mut self, run: &[T])
+    where
+        T: Copy,
+        requires { self.old.used + length run.now ≤ length self.old.rows.now }
+        ensures { Grown self.old self.new run.now }
+    {
+        let end = self.used + run.len();
+        self.rows[self.used..end].copy_from_slice(run);
+        self.used = end;
     }
 }

@@ -1,24 +1,24 @@
-ghost use Rattle.std.specs.Prelude.{◌≡◌, ℕ, ◌+◌, ◌*◌, ◌<◌, ◌≤◌, IfOk, MatchOption};
+ghost use Rattle.std.specs.Prelude.{◌≡◌, ℕ, ◌+◌, ◌*◌, ◌<◌, ◌≤◌, IfOk, MatchResult};
+ghost use Rattle.refusal.specs.declared.Refusal.TheVariants.{PastEnd};
 ghost use Rattle.views.specs.Shapes.{view_outcome, placed_by, records_end};
 ghost use Rattle.views.specs.Viewed.{Viewed, Whole};
 
 use super::view::View;
 use headers::header::Header;
 use kinds::kind::Kind;
+use media::runs::end_of;
 use records::records::Records;
 use records::shape::Shape;
 use refusal::Refusal;
 
-// Where `count` things of a size end that begin at `first`, if that is at most `size`.
-fn end_within(first: usize, count: u64, stride: usize, size: usize) -> Option<usize>
-    ensures { MatchOption result (size < first + count * stride) (λ e. (e ≡ first + count * stride) × (e ≤ size)) }
+// Where `count` things of a size end that begin at `first`. 1 when that is past `size`.
+fn end_within(first: usize, count: u64, stride: usize, size: usize) -> Result<usize, Refusal>
+    ensures { MatchResult result (λ e. (e ≡ first + count * stride) × (e ≤ size)) (λ e. (size < first + count * stride) × (e ≡ PastEnd)) }
 {
-    let long = (count as usize).checked_mul(stride)?;
-    let end = first.checked_add(long)?;
-    if end > size {
-        return None;
-    }
-    Some(end)
+    let long = (count as usize)
+        .checked_mul(stride)
+        .ok_or(Refusal::PastEnd)?;
+    end_of(size, first, long)
 }
 
 // The kind of a file of so many bytes and where its records lie, by its header.
@@ -31,13 +31,8 @@ fn placed(header: Header, arcs: u64, size: usize) -> Result<(Kind, Shape), Refus
         Kind::Polygons => arcs,
         _ => 0,
     };
-    let Some(first) = end_within(sizes.header, sides, sizes.sides, size) else {
-        return Err(Refusal::PastEnd);
-    };
-    let stride = sizes.record(header.kind);
-    if end_within(first, header.count, stride, size).is_none() {
-        return Err(Refusal::PastEnd);
-    }
+    let first = end_within(sizes.header, sides, sizes.sides, size)?;
+    end_within(first, header.count, sizes.record(header.kind), size)?;
     Ok((
         header.kind,
         Shape {
@@ -49,11 +44,12 @@ fn placed(header: Header, arcs: u64, size: usize) -> Result<(Kind, Shape), Refus
 }
 
 // The kind of a file that is asked for by letter, and where its records lie.
+#[tactic(auto, using(refusal::proofs::Options::ok_of_ok_or, crate::proofs::WholeLaws::whole_from_end))]
 fn located(letter: char, file: &[u8], arcs: u64) -> Result<(Kind, Shape), Refusal>
     ensures value { result ≡ view_outcome file.now letter arcs }
     ensures whole { IfOk result (λ p. Whole p.0 file.now p.1) }
 {
-    let header = Header::read(file, Kind::by_letter(letter))?;
+    let header = Header::read(file, Kind::try_from(letter).ok())?;
     placed(header, arcs, file.len())
 }
 
@@ -64,11 +60,11 @@ impl<'a> View<'a> {
         ensures { Viewed file.now (view_outcome file.now letter arcs) result }
     {
         let (kind, shape) = located(letter, file, arcs)?;
-        match kind {
-            Kind::Points => Ok(View::OfPoints(Records::over(file, shape))),
-            Kind::Arcs => Ok(View::OfArcs(Records::over(file, shape))),
-            Kind::Nodes => Ok(View::OfNodes(Records::over(file, shape))),
-            Kind::Polygons => Ok(View::OfPolygons(Records::over(file, shape))),
-        }
+        Ok(match kind {
+            Kind::Points => View::OfPoints(Records::over(file, shape)),
+            Kind::Arcs => View::OfArcs(Records::over(file, shape)),
+            Kind::Nodes => View::OfNodes(Records::over(file, shape)),
+            Kind::Polygons => View::OfPolygons(Records::over(file, shape)),
+        })
     }
 }

@@ -1,5 +1,5 @@
 -- What std's `parse` answers, in the words of the specs.
-use Rattle.std.proofs.Common.{◌≡◌, ℕ, ◌^◌, ◌<◌, true, ◌&&◌, ltb, List, [], ◌∷◌, length, is_some, Some, None, Ok, Err, IsUtf8, Option, Result, sym, refl, ap, ◌∙◌, subst, append-nil, arith}
+use Rattle.std.proofs.Common.{MatchOption, ◌≡◌, ℕ, ◌^◌, ◌<◌, true, ◌&&◌, ltb, List, [], ◌∷◌, length, is_some, Some, None, Ok, Err, IsUtf8, Option, Result, sym, refl, ap, ◌∙◌, subst, append-nil, arith}
 use lib.Utf8.{scalar, encode, encodes, scalars}
 use lib.Ieee.{Float, binary64}
 use Rattle.std.specs.Result.{result_ok}
@@ -58,5 +58,9 @@ decimal_text bs r = at (plain_of bs) refl r
     at None e None h = sym h
     at None e (Some x) h = sym h.0
 
-pub plain_said : (bs : List ℕ) (x : Float) → Some x ≡ plain_of bs → Decimal bs (Some x)
+plain_said : (bs : List ℕ) (x : Float) → Some x ≡ plain_of bs → Decimal bs (Some x)
 plain_said bs x e = subst (λ (o : Option Float). Said bs o (Some x)) e refl
+
+pub said_or_parsed : (bs : List ℕ) (o r : Option Float) (N : Type 0) → o ≡ plain_of bs → (N → Parsed bs r) → MatchOption o N (λ x. r ≡ Some x) → Decimal bs r
+said_or_parsed bs (Some x) r N e f h = rw h (plain_said bs x e)
+said_or_parsed bs None r N e f h = subst (λ (o : Option Float). Said bs o r) e (f h)

@@ -11,20 +11,21 @@ use decimals::plain_decimal;
 pub fn whole(word: &str) -> Option<u64>
     ensures { result ≡ whole_of word.now }
 {
-    match word.parse::<u64>() {
-        Ok(n) => Some(n),
-        Err(_) => None,
-    }
+    word.parse::<u64>().ok()
+}
+
+/// The same number, as the arcs, sides and vertices of a map are counted.
+pub fn number(word: &str) -> Option<usize>
+    ensures { result ≡ whole_of word.now }
+{
+    whole(word).map(|n| n as usize)
 }
 
 /// The only character of a word.
 pub fn character(word: &str) -> Option<char>
     ensures { result ≡ character_of word.now }
 {
-    match word.parse::<char>() {
-        Ok(c) => Some(c),
-        Err(_) => None,
-    }
+    word.parse::<char>().ok()
 }
 
 /// The double that a word writes: of a plain decimal number the nearest one, of any other text what Rust's `parse` reads.
@@ -32,18 +33,5 @@ pub fn decimal(word: &str) -> Option<f64>
     ensures said { Decimal word.now result }
     ensures reads { is_some result ≡ is_float_text word.now }
 {
-    match plain_decimal(word) {
-        Some(x) => Some(x),
-        None => parsed(word),
-    }
-}
-
-// The double that Rust's `parse` reads.
-fn parsed(word: &str) -> Option<f64>
-    ensures { Parsed word.now result }
-{
-    match word.parse::<f64>() {
-        Ok(y) => Some(y),
-        Err(_) => None,
-    }
+    plain_decimal(word).or_else(|| word.parse().ok())
 }

@@ -1,9 +1,10 @@
 -- The worked square, computed.
-use Rattle.std.proofs.Common.{◌≡◌, ℕ, zero, suc, false, pos, Ok, Err, Result, refl, ap, ◌∙◌, arith}
+use Rattle.std.proofs.Common.{◌≡◌, ℕ, ◌<◌, zero, suc, false, List, pos, Ok, Err, Result, refl, ap, ◌∙◌, arith}
 use lib.Ieee.{fin, binary64, of_bits, eq}
 use Rattle.std.specs.Float.{float_is_finite}
 use Rattle.std.specs.Fmt.{digits}
 use Rattle.refusal.specs.declared.Refusal.{Refusal}
+use Rattle.topology.specs.declared.vertex.Vertex.{Vertex}
 use Rattle.topology.specs.States.{State}
 use Rattle.topology.specs.Islands.{island_outcome}
 use Rattle.listing.specs.Texts.{listing}
@@ -28,16 +29,18 @@ island_taken = refl
 
 -- ---- a step that is taken
 
--- no step is refused
-pub not_refused : (e : Refusal) (o : Result State Refusal) (t : State) → Err e ≡ o → o ≡ Ok t → ⊥
-not_refused e o t p q = let z : ◌≡◌ {A = ℕ} 0 1 = cc in omega arith
+-- what an island in the blank map, round the square, gives
+pub step_is : (o : Result State Refusal) (m : State) (vs : List Vertex) → o ≡ island_outcome m 0 vs → m ≡ square_after 0 → vs ≡ square → ◌≡◌ {A = Result State Refusal} o (Ok (square_after 1))
+step_is o m vs e f g = e ∙ ap (λ (k : State). island_outcome k 0 vs) f ∙ ap (island_outcome (square_after 0) 0) g ∙ island_taken
 
--- the state that a step leaves
-pub left_by : (m : State) (o : Result State Refusal) (t : State) → Ok m ≡ o → o ≡ Ok t → m ≡ t
-left_by m o t p q = cc
+pub not_refused : (e : Refusal) → ◌≡◌ {A = Result State Refusal} (Err e) (Ok (square_after 1)) → ⊥
+not_refused e p = let z : ◌≡◌ {A = ℕ} 0 1 = cc in omega arith
 
-pub after_one : (steps : ℕ) → (steps ≡ 0 → ⊥) → square_after 1 ≡ square_after steps
-after_one zero h = absurd (h refl)
+pub left_by : (m : State) → ◌≡◌ {A = Result State Refusal} (Ok m) (Ok (square_after 1)) → m ≡ square_after 1
+left_by m p = cc
+
+pub after_one : (steps : ℕ) → 0 < steps → square_after 1 ≡ square_after steps
+after_one zero h = absurd (omega arith)
 after_one (suc k) h = refl
 
 -- the text of a listing, where the state after so many steps was listed

@@ -33,19 +33,12 @@ pub fn worked_square(steps: usize, out: &mut [u8]) -> Result<usize, Refusal>
     ensures island { island_outcome (square_after 0) 0 square ≡ Ok (square_after 1) }
     ensures listed { (k : ℕ) → listing (square_after k) ≡ text_after k }
 {
-    let mut sides = [Side {
-        node: 0,
-        row: 0,
-        polygon: 0,
-        next: 0,
-        low: 0,
-    }; 16];
-    let mut vertices = [Vertex { x: 0.0, y: 0.0 }; 64];
+    let mut sides = [Side::default(); 16];
+    let mut vertices = [Vertex::default(); 64];
     let mut map = Map::start(Hand::Right, &mut sides, &mut vertices);
-    if steps == 0 {
-        return list(&map, out);
+    if steps > 0 {
+        map.island(0, &around())?;
     }
-    map.island(0, &around())?;
     list(&map, out)
 }
 

@@ -1,15 +1,8 @@
-use Rattle.std.proofs.Common.{◌≤◌, length, arith}
+use Rattle.std.proofs.Common.{arith}
 use Rattle.topology.specs.States.{state_of}
 use Rattle.listing.specs.Texts.{listing}
-use Rattle.listing.proofs.Fitting.{fits_answer, fits_leaves}
+use Rattle.listing.proofs.Fitting.{fits_leaves}
 use Rattle.listing.proofs.list.Goals as goal
 
-pub returns : goal.returns
-returns c =
-    let text = listing (state_of c.args.map.now) in
-    let out = c.args.out.now in
-    let fits : length text ≤ length out = omega (arith, c.put_listing.ensures.next, c.if-put_listing-out.false) in
-    record {
-      answer = fits_answer out text c.put_listing-2.new.out c.put_listing-2.result fits c.put_listing-2.ensures;
-      leaves = fits_leaves out text c.put_listing-2.new.out c.put_listing-2.result fits c.put_listing-2.ensures;
-    }
+pub returns-clause-leaves : goal.returns-clause-leaves
+returns-clause-leaves c = let put = c.put_listing.ensures in fits_leaves c.args.out.now (listing (state_of c.args.map.now)) _ (omega arith) c.put_listing-2.ensures.after

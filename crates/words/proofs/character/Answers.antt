@@ -1,9 +1,6 @@
-use Rattle.std.proofs.Common.{rules}
+use Rattle.std.proofs.Common.{◌∙◌}
 use Rattle.words.proofs.character.Goals as goal
 use Rattle.words.proofs.Reading.{character_read}
 
-pub returns-in-Ok : goal.returns-in-Ok
-returns-in-Ok c = search (rules, character_read)
-
-pub returns-in-Err : goal.returns-in-Err
-returns-in-Err c = search (rules, character_read)
+pub returns : goal.returns
+returns c = c.ok.ensures.value ∙ character_read c.args.word.now c.parse.result c.utf8.word c.parse.ensures.value

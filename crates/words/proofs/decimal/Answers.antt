@@ -1,11 +1,8 @@
-use Rattle.std.proofs.Common.{Some, rules}
+use Rattle.std.proofs.Common.{rules}
 use Rattle.words.proofs.decimal.Goals as goal
-use Rattle.words.proofs.Reading.{decimal_text, plain_said}
+use Rattle.words.proofs.Reading.{decimal_read, decimal_text, said_or_parsed}
 
-pub returns-in-Some : goal.returns-in-Some
-returns-in-Some c =
-    let said = plain_said c.args.word.now c.in-Some.x c.in-Some.ensures in
-    record { said = said; reads = decimal_text c.args.word.now (Some c.in-Some.x) said }
-
-pub returns-in-None : goal.returns-in-None
-returns-in-None c = search (rules, decimal_text)
+pub returns : goal.returns
+returns c =
+    let d = said_or_parsed c.args.word.now c.plain_decimal.result c.or_else.result _ c.plain_decimal.ensures (λ h. search (rules, decimal_read)) c.or_else.ensures in
+    record { said = d; reads = decimal_text c.args.word.now c.or_else.result d }

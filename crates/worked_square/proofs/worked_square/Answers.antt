@@ -1,37 +1,29 @@
-use Rattle.std.proofs.Common.{ℕ, List, length, sym, ap, ◌∙◌}
-use Rattle.topology.specs.declared.vertex.Vertex.{Vertex}
-use Rattle.topology.specs.States.{State, state_of}
-use Rattle.topology.specs.Islands.{island_outcome}
+use Rattle.std.proofs.Common.{◌≡◌, ℕ, List, length, ap, ◌∙◌, arith}
+use Rattle.topology.specs.States.{state_of}
 use Rattle.listing.specs.Texts.{text_outcome, text_leaves}
 use Rattle.worked_square.specs.Squares.{square_after}
-use Rattle.worked_square.proofs.Working.{texts, island_taken, not_refused, left_by, after_one, listed_as}
+use Rattle.worked_square.proofs.Working.{texts, island_taken, step_is, not_refused, left_by, after_one, listed_as}
 use Rattle.worked_square.proofs.worked_square.Goals as goal
-
-pub returns-then-steps-eq0 : goal.returns-then-steps-eq0
-returns-then-steps-eq0 c =
-    let out = c.args.out.now in
-    let e = listed_as (state_of c.start-map.result) c.args.steps (c.start-map.ensures.state ∙ sym (ap square_after c.if-steps-eq0.true)) in
-    record {
-      answer = c.list.ensures.answer ∙ ap (λ (text : List ℕ). text_outcome text (length out)) e;
-      leaves = c.list.ensures.leaves ∙ ap (λ (text : List ℕ). text_leaves text out) e;
-      island = island_taken;
-      listed = texts;
-    }
+use Rattle.worked_square.proofs.worked_square.Goals.{then-steps-gt0+in_ok-island, else-steps-gt0}
 
 pub returns-in_err-island : goal.returns-in_err-island
-returns-in_err-island c =
-    let o = ap (λ (m : State). island_outcome m 0 c.around.result) c.start-map.ensures.state ∙ ap (λ (vs : List Vertex). island_outcome (square_after 0) 0 vs) c.around.ensures ∙ island_taken in
-    absurd (not_refused c.in_err-island.field-0.0 _ (square_after 1) c.in_err-island.ensures.edited.agrees o)
+returns-in_err-island c = absurd (not_refused c.in_err-island.field-0.0 (step_is _ (state_of c.start-map.result) c.around.result c.in_err-island.ensures.edited.agrees c.start-map.ensures.state c.around.ensures))
 
 pub returns : goal.returns
 returns c =
     let out = c.args.out.now in
-    let o = ap (λ (m : State). island_outcome m 0 c.around.result) c.start-map.ensures.state ∙ ap (λ (vs : List Vertex). island_outcome (square_after 0) 0 vs) c.around.ensures ∙ island_taken in
-    let is = left_by (state_of c.island.new.self) _ (square_after 1) c.in_ok-island.ensures.edited.agrees o in
-    let e = listed_as (state_of c.island.new.self) c.args.steps (is ∙ after_one c.args.steps c.if-steps-eq0.false) in
+    let steps = c.args.steps in
+    let e : state_of c.if-steps-gt0.map ≡ square_after steps =
+    elim c.if-steps-gt0.branch [
+      | then-steps-gt0+in_ok-island w ↦
+          ap state_of w.map-is ∙ left_by (state_of w.island.new.self) (step_is _ (state_of c.start-map.result) w.around.result w.in_ok-island.ensures.edited.agrees c.start-map.ensures.state w.around.ensures)
+          ∙ after_one steps w.if-steps-gt0.true
+      | else-steps-gt0 w ↦ let z : 0 ≡ steps = omega (arith, w.if-steps-gt0.false) in ap state_of w.map-is ∙ c.start-map.ensures.state ∙ ap square_after z
+    ] in
+    let text = listed_as (state_of c.if-steps-gt0.map) steps e in
     record {
-      answer = c.list-2.ensures.answer ∙ ap (λ (text : List ℕ). text_outcome text (length out)) e;
-      leaves = c.list-2.ensures.leaves ∙ ap (λ (text : List ℕ). text_leaves text out) e;
+      answer = c.list.ensures.answer ∙ ap (λ (t : List ℕ). text_outcome t (length out)) text;
+      leaves = c.list.ensures.leaves ∙ ap (λ (t : List ℕ). text_leaves t out) text;
       island = island_taken;
       listed = texts;
     }

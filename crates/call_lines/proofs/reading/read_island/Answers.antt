@@ -1,15 +1,13 @@
-use Rattle.line_words.specs.LineWords.{texts}
-use Rattle.call_lines.proofs.Saying.{island_words, island_fits, island_unfit}
+use Rattle.std.proofs.Common.{◌≡◌, Some, rules, string_bytes, sym, ap, ◌∙◌, arith}
+use Rattle.std.proofs.lemmas.List.{drop-map, take_rest}
+use Rattle.line_words.specs.LineWords.{texts, word}
+use Rattle.words.specs.Words.{whole_of}
+use Rattle.call_lines.proofs.VertexWords.{word_is}
+use Rattle.call_lines.proofs.Saying.{island_says}
 use Rattle.call_lines.proofs.reading.read_island.Goals as goal
 
-pub returns-in-Some-2 : goal.returns-in-Some-2
-returns-in-Some-2 c =
-    let ws = texts c.args.words.now in
-    let vs = texts c.after.result.now in
-    island_fits ws vs c.in-Some.polygon c.in_ok-run.field-0 c.in-Some-2.run' (island_words ws vs _ c.in-Some.ensures c.after.ensures) c.in-Some-2.is c.in_ok-run.ensures
-
-pub returns-in-None : goal.returns-in-None
-returns-in-None c =
-    let ws = texts c.args.words.now in
-    let vs = texts c.after.result.now in
-    island_unfit ws vs c.in-Some.polygon c.in_ok-run.field-0 (island_words ws vs _ c.in-Some.ensures c.after.ensures) c.in-None.is c.in_ok-run.ensures
+pub returns : goal.returns
+returns c =
+    let words = c.args.words.now in
+    let polygon : whole_of (word (texts words) 1) ≡ Some c.in-Some.polygon = rw (word_is words 1 c.polygon-item.result c.as_str.result.now (omega arith) c.polygon-item.is c.as_str.ensures.value) (sym c.in-Some.ensures) in
+    island_says (texts words) _ c.in-Some.polygon _ c.in_ok-read_run.field-0 c.map.result polygon (ap texts (take_rest words 2) ∙ sym (drop-map string_bytes 2 words)) c.in_ok-read_run.ensures c.map.ensures.cases (λ run d h. search rules)

@@ -1,26 +1,27 @@
-use Rattle.std.proofs.Common.{◌≡◌, true, false, length, vec_items, string_bytes, sym, ap, ◌∙◌, subst, arith, rules}
-use Rattle.std.proofs.lemmas.List.{length-map}
-use Rattle.line_words.specs.LineWords.{texts, word}
-use Rattle.call_lines.specs.Spoken.{is_vertex, coordinates, Written}
-use Rattle.call_lines.proofs.VertexWords.{passes_all, fails_one, run_turn}
+use Rattle.std.proofs.Common.{◌≡◌, ◌<◌, length, vec_items, string_bytes, arith, rules, below_more, [], ◌∷◌, ◌++◌, ap, ◌∙◌}
+use lib.ListN.{get_or-append}
+use Rattle.std.proofs.lemmas.Grind.{common_steps}
+use Rattle.std.proofs.lemmas.List.{length-map, get_or_push}
+use Rattle.std.proofs.lemmas.List.Folds.{list_all_at}
+use Rattle.line_words.specs.LineWords.{texts}
+use Rattle.call_lines.specs.Spoken.{is_vertex}
+use Rattle.call_lines.proofs.VertexWords.{word_is}
 use Rattle.call_lines.proofs.vertices.read_run.Goals as goal
 
 pub returns-in_default : goal.returns-in_default
 returns-in_default c =
-    let ws = texts c.args.words.now in
-    let e : is_vertex (word ws c.loop-i.i) ≡ false = ap is_vertex (sym c.text_at.ensures) ∙ c.in_default.ensures in
-    fails_one is_vertex ws _ c.loop-i.i (omega (arith, length-map c.args.words.now string_bytes)) e
+    let w = word_is c.args.words.now c.loop-word.word-index c.word-item.result c.as_str.result.now (omega arith) c.word-item.is c.as_str.ensures.value in
+    list_all_at is_vertex (texts c.args.words.now) c.loop-word.word-index [] (omega (arith, length-map c.args.words.now string_bytes)) (ap is_vertex w ∙ c.in_default.ensures)
 
-pub loop-i-preserved : goal.loop-i-preserved
-loop-i-preserved c =
-    let ws = texts c.args.words.now in
-    run_turn ws (vec_items c.loop-i.vertices) (vec_items c.push.new.self) c.in-Some.v c.loop-i.i c.loop-i.invariant.0 c.loop-i.invariant.1 (search rules)
-    (subst (λ w. (is_vertex w ≡ true) × Written (coordinates w) c.in-Some.v) c.text_at.ensures c.in-Some.ensures)
-
-pub returns : goal.returns
-returns c =
-    let ws = texts c.args.words.now in
-    let l : length ws ≡ length c.args.words.now = length-map c.args.words.now string_bytes in
-    let m : length ws ≡ c.loop-i.i = omega (arith, l) in
-    let v = c.loop-i.invariant in
-    (passes_all is_vertex ws _ (λ k p. (v.1 k (omega arith)).0), record { long = v.0 ∙ sym m; each = λ k p. (v.1 k (omega arith)).1 })
+pub loop-word-preserved : goal.loop-word-preserved
+loop-word-preserved c =
+    let w = word_is c.args.words.now c.loop-word.word-index c.word-item.result c.as_str.result.now (omega arith) c.word-item.is c.as_str.ensures.value in
+    let l : c.loop-word.word-index < length (texts c.args.words.now) = omega (arith, length-map c.args.words.now string_bytes) in
+    let e : vec_items c.push.new.self ≡ vec_items c.loop-word.vertices ++ c.in-Some.vertex ∷ [] = search rules in
+    record {
+      fit = grind (arith, common_steps, w);
+      long = search rules;
+      each = rw e (below_more _ _
+          (λ k p. let m : k < length (vec_items c.loop-word.vertices) = omega arith in rw get_or-append (c.loop-word.invariant.each k p))
+          (rw (w, get_or_push _ _ _ _ c.loop-word.invariant.long) c.in-Some.ensures.1));
+    }

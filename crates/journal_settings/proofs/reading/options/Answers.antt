@@ -1,14 +1,13 @@
-use Rattle.journal_settings.proofs.OptionLaws.{stops, goes_on, fewer, ended}
+use Rattle.std.proofs.Common.{length, min, ap, ◌∙◌}
+use Rattle.std.specs.Slice.Iter.{chunks_rest}
+use Rattle.journal_settings.proofs.OptionLaws.{goes_on}
 use Rattle.journal_settings.proofs.reading.options.Goals as goal
 
-pub returns-in-Err : goal.returns-in-Err
-returns-in-Err c = stops c.loop-rest.rest.now c.loop-rest-test.true c.loop-rest.given _ _ _ _ c.loop-rest.invariant c.text_at.ensures c.text_at-in-loop-rest.ensures c.in-Err.ensures
-
-pub loop-rest-preserved : goal.loop-rest-preserved
-loop-rest-preserved c = goes_on c.loop-rest.rest.now c.loop-rest-test.true c.loop-rest.given _ _ _ _ c.after-rest.result.now c.loop-rest.invariant c.text_at.ensures c.text_at-in-loop-rest.ensures c.in-Ok.ensures c.after-rest.ensures
-
-pub loop-rest-smaller : goal.loop-rest-smaller
-loop-rest-smaller c = fewer c.loop-rest.rest.now c.after-rest.result.now c.after-rest.ensures c.loop-rest-test.true
-
-pub returns : goal.returns
-returns c = ended c.loop-rest.rest.now c.loop-rest.given _ c.loop-rest-test.false c.loop-rest.invariant
+pub loop-pair-preserved : goal.loop-pair-preserved
+loop-pair-preserved c =
+    let (size, chunk) = c.in-Some.ensures.steps in
+    let rest = chunks_rest c.loop-pair.pair-iterator in
+    let two = chunk.1 ∙ ap (λ n. min n (length rest)) c.loop-pair.invariant.1 in (
+      goes_on c.loop-pair.given c.in_ok-given.given c.text_at.result.now c.text_at-in-loop-pair.result.now rest c.in-Some.pair.now (chunks_rest c.next.new.self) c.in_ok-given.ensures c.text_at.ensures c.text_at-in-loop-pair.ensures chunk.0 two chunk.2 ∙ c.loop-pair.invariant.0,
+      size ∙ c.loop-pair.invariant.1,
+    )

@@ -1,15 +1,10 @@
-use Rattle.std.proofs.Common.{Some, None, vec_items, arith, rules}
-use Rattle.std.proofs.lemmas.Str.Pattern.{split_parts}
-use Rattle.line_words.specs.LineWords.{texts, words_of}
-use Rattle.line_words.proofs.WordLaws.{words_turn, words_end}
+use Rattle.std.proofs.Common.{ap, ◌∙◌, filter, lit<}
+use Rattle.std.proofs.lemmas.Iterator.Consumers.{YieldsList-at, YieldsList-end}
+use Rattle.std.proofs.lemmas.Iterator.Splits.{YieldsList-from_str_split}
+use Rattle.line_words.specs.LineWords.{is_word}
 use Rattle.line_words.proofs.splitting.split_words.Goals as goal
-
-pub loop-piece-preserved : goal.loop-piece-preserved
-loop-piece-preserved c =
-    let s = split_parts 32 c.loop-piece.rest.now (Some (c.in-Some.piece, c.in-Some.after)) c.in-Some.ensures.cases (omega arith) in
-    (search rules, words_turn (texts (vec_items c.loop-piece.words)) (texts (vec_items c.push_word.new.words)) (words_of c.args.line.now) c.loop-piece.rest.now c.in-Some.piece.now c.in-Some.after.now s.0 s.1 c.in_ok-push_word.ensures c.loop-piece.invariant.1)
 
 pub returns : goal.returns
 returns c =
-    let s = split_parts 32 c.loop-piece.rest.now None c.in_default.ensures.cases (omega arith) in
-    words_end _ _ _ _ s c.in_ok-push_word-2.ensures c.loop-piece.invariant.1
+    let road = YieldsList-from_str_split 32 c.args.line.now (lit< tt) c.split-piece-items.ensures.text c.split-piece-items.ensures.has_more c.split-piece-items.ensures.pattern in
+    c.loop-piece.invariant ∙ ap (filter is_word) (YieldsList-end (YieldsList-at c.into_iter-piece-iterator.ensures.into_iter_gives road) c.loop-piece.yielded _ c.loop-piece.yielded_by _ _ c.in-None.is c.next.ensures.steps).0

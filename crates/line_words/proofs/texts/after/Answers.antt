@@ -1,8 +1,5 @@
-use Rattle.line_words.proofs.WordLaws.{rest_there, rest_past}
+use Rattle.line_words.proofs.WordLaws.{rest_is}
 use Rattle.line_words.proofs.texts.after.Goals as goal
 
-pub returns-then-n-words : goal.returns-then-n-words
-returns-then-n-words c = rest_there c.args.words.now c.args.n
-
-pub returns-else-n-words : goal.returns-else-n-words
-returns-else-n-words c = rest_past c.args.words.now c.args.n c.if-n-words.false
+pub returns : goal.returns
+returns c = rest_is _ c.args.words.now c.args.n c.get.result c.unwrap_or_default.result c.get.ensures.lookup.0 c.unwrap_or_default.ensures (λ _ e. e)

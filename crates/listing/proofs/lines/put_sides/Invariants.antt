@@ -8,5 +8,5 @@ use Rattle.listing.proofs.lines.put_sides.Given as goal
 
 abbrev pub invariant-loop-i : goal.invariant-loop-i
 invariant-loop-i l =
-    Rest l.initial.out l.initial.to (sides_text (walk (next_of (state_of l.map).sides) (length (state_of l.map).sides) l.start l.start)) l.out l.to
+    Rest l.initial.to l.to (sides_text (walk (next_of (state_of l.map).sides) (length (state_of l.map).sides) l.start l.start))
     (sides_text (walk (next_of (state_of l.map).sides) (length (state_of l.map).sides - l._i) l.start l.side))

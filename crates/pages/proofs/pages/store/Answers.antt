@@ -1,13 +1,7 @@
-use Rattle.std.proofs.Common.{◌≡◌, ℕ, ◌+◌, ◌/◌, ◌%◌, [], length, get_or, sym, ap, ◌∙◌, arith}
-use Rattle.std.proofs.lemmas.List.{take_all}
-use Rattle.media.specs.Runs.{overwrite}
+use Rattle.std.proofs.Common.{◌≡◌, ℕ, ◌+◌, ◌/◌, ◌%◌, [], length, get_or, ap, ◌∙◌, arith}
 use Rattle.pages.specs.Paging.{content, stored}
-use Rattle.media.proofs.RunLaws.{overwrite_none}
 use Rattle.pages.proofs.Contents.{store_more, length_content}
 use Rattle.pages.proofs.pages.store.Goals as goal
-
-pub loop-i-init : goal.loop-i-init
-loop-i-init c = (sym (overwrite_none (content c.args.pages.now c.args.list.now.list c.args.list.now.len) c.args.at), c.told-pages)
 
 pub loop-i-preserved : goal.loop-i-preserved
 loop-i-preserved c =
@@ -24,7 +18,3 @@ loop-i-preserved c =
           (length_content c.args.pages.now ps n) c.requires (omega arith) c.loop-i.invariant.0,
       c.put.array_long,
     )
-
-pub returns : goal.returns
-returns c =
-    c.loop-i.invariant.0 ∙ ap (λ ws. overwrite (content c.args.pages.now c.args.list.now.list c.args.list.now.len) c.args.at ws) (take_all c.loop-i.i c.args.from.now (omega arith))

@@ -1,25 +1,20 @@
-use Rattle.std.proofs.Common.{take, sym, ◌∙◌, arith}
-use Rattle.topology.specs.Dissolves.{in_either}
-use Rattle.topology.proofs.FreedRows.{first_here, first_on, either_read}
+use Rattle.std.proofs.Common.{ℕ, ◌+◌, ◌/◌, not, ◌&&◌, ◌||◌, eqb, length, unwrap_or, ap, ◌∙◌, rules, tests}
+use Rattle.std.proofs.lemmas.Iterator.Search.{position_from_yields_List}
+use Rattle.std.proofs.lemmas.Iterator.Adapters.{position_from-zero}
+use Rattle.std.specs.List.{enumerate_from}
+use Rattle.topology.specs.declared.side.Side.{Side}
+use Rattle.topology.specs.Rows.{low_of}
+use Rattle.topology.proofs.Enumerated.{numbered, first_listed}
 use Rattle.topology.proofs.dissolves.lowest_left.Goals as goal
 
-pub returns-then-stands_in : goal.returns-then-stands_in
-returns-then-stands_in c =
-    let rows = c.args.sides.now in
-    let n = c.args.used in
-    let k = c.loop-k.k in
-    let P = in_either (take n rows) c.args.arc in
-    let e = either_read rows n c.args.arc k (omega arith) (omega arith) in
-    record {
-      value = sym (c.loop-k.invariant ∙ first_here P k n (omega arith) (sym e ∙ (sym c.stands_in.ensures ∙ c.if-stands_in.true)));
-      low = omega arith;
-    }
-
-pub loop-k-preserved : goal.loop-k-preserved
-loop-k-preserved c =
-    let rows = c.args.sides.now in
-    let n = c.args.used in
-    let k = c.loop-k.k in
-    let P = in_either (take n rows) c.args.arc in
-    let e = either_read rows n c.args.arc k (omega arith) (omega arith) in
-    c.loop-k.invariant ∙ first_on P k n (omega arith) (sym e ∙ (sym c.stands_in.ensures ∙ c.if-stands_in.false))
+pub returns-clause-value : goal.returns-clause-value
+returns-clause-value c =
+    let us = c.args.sides.now in
+    let a = c.args.arc in
+    let T = λ (x : ℕ × Side). not (eqb (x.0 / 2) a) && (eqb x.1.low (low_of us (a + a)) || eqb x.1.low (low_of us (a + a + 1))) in
+    c.unwrap_or.ensures
+    ∙ (ap (λ o. unwrap_or o (length us))
+    (position_from_yields_List T _ _ c.position.result c.position.ensures.ran
+    (numbered us c.iter.ensures.rest c.enumerate.ensures.source c.enumerate.ensures.count) (λ x r q k. search (rules, tests))
+    ∙ position_from-zero T (enumerate_from 0 us))
+    ∙ first_listed us a)

@@ -1,21 +1,16 @@
-use Rattle.std.proofs.Common.{◌+◌, take, sym, ap, ◌∙◌, arith}
-use Rattle.topology.specs.Rows.{tells}
-use Rattle.topology.proofs.Lowest.{kept_yes, kept_no, tells_yes, tells_no}
+use Rattle.std.proofs.Common.{ℕ, length, ap, sym, ◌∙◌, rules, tests}
+use Rattle.std.proofs.lemmas.Iterator.Consumers.{YieldsList-from_filter, YieldsList-at, count_from_yields_List}
+use Rattle.std.proofs.lemmas.List.{length-map}
+use Rattle.std.specs.List.{filter, enumerate_from}
+use Rattle.topology.specs.declared.side.Side.{Side}
+use Rattle.topology.proofs.Enumerated.{numbered, is_start, starts_listed}
 use Rattle.topology.proofs.walks.count_starts.Goals as goal
-use Rattle.topology.proofs.walks.count_starts.Goals.{then-sides-s, else-sides-s}
 
-pub loop-s-preserved : goal.loop-s-preserved
-loop-s-preserved c =
-    let rows = c.args.sides.now in
-    let n = c.args.used in
-    let s = c.loop-s.s in
-    let P = tells (take n rows) in
-    let v = c.loop-s.invariant in
-    elim c.if-sides-s.branch [
-      | then-sides-s w ↦
-          let y = kept_yes P s (tells_yes rows n s (omega arith) w.if-sides-s.true) in
-          (omega (arith, w.n-is, v.0), w.n-is ∙ ap (λ k. k + 1) v.1 ∙ sym y)
-      | else-sides-s w ↦
-          let y = kept_no P s (tells_no rows n s (omega arith) w.if-sides-s.false) in
-          (omega (arith, w.n-is, v.0), w.n-is ∙ v.1 ∙ sym y)
-    ]
+pub returns : goal.returns
+returns c =
+    let us = c.args.sides.now in
+    count_from_yields_List c.filter.result c.count.result c.count.ensures.ran
+    (YieldsList-from_filter _ is_start
+    (YieldsList-at c.filter.ensures.source (numbered us c.iter.ensures.rest c.enumerate.ensures.source c.enumerate.ensures.count))
+    c.filter.ensures.closure (λ x r q k. search (rules, tests)))
+    ∙ (sym (length-map (filter is_start (enumerate_from 0 us)) (λ (p : ℕ × Side). p.0)) ∙ ap length (starts_listed us))
