@@ -8,7 +8,7 @@ use topology::vertex::Vertex;
 use words::decimal;
 
 // Whether two doubles are the same, zeros of two signs apart.
-// Stays: std's == makes one of the two zeros, and its total_cmp takes no NaN.
+// Stays: == takes the two zeros for one and no NaN for itself, and std's to_bits and total_cmp require that there is no NaN.
 #[tactic(auto, using(crate::proofs::Doubles::same_bits, crate::proofs::Doubles::both_nan))]
 fn same(x: f64, y: f64) -> bool
     ensures { result ≡ true → x ≡ y }

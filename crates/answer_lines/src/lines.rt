@@ -15,10 +15,12 @@ pub fn answer_text(
 ) -> Result<Vec<u8>, TextFault>
     ensures { IfOk result (λ bs. AnswerText answer left.now bs.items) }
 {
-    match answer {
-        Err(refusal) => Ok(format!(in heap; "{refusal}\n")?.into_bytes()),
-        Ok(Answer::Done) => Ok(String::from_str(heap, "ok\n")?.into_bytes()),
-        Ok(Answer::Listed(n)) => Ok(Vec::from_slice(heap, left.get(..n).unwrap_or(left))?),
+    let text = match answer {
+        Err(refusal) => format!(in heap; "{refusal}\n")?,
+        Ok(Answer::Done) => String::from_str(heap, "ok\n")?,
+        Ok(Answer::Listed(n)) => {
+            return Ok(Vec::from_slice(heap, left.get(..n).unwrap_or(left))?);
+        }
         Ok(
             Answer::Counts {
                 arcs,
@@ -26,20 +28,17 @@ pub fn answer_text(
                 polygons,
                 rings,
             },
-        ) => Ok(format!(in heap;
-            "arcs {arcs} nodes {nodes} polygons {polygons} rings {rings}\n"
-        )?.into_bytes()),
-        Ok(Answer::Ring { polygon, side }) => Ok(format!(in heap;
-            "polygon {polygon} side {side}\n"
-        )?.into_bytes()),
+        ) => format!(in heap; "arcs {arcs} nodes {nodes} polygons {polygons} rings {rings}\n")?,
+        Ok(Answer::Ring { polygon, side }) => format!(in heap; "polygon {polygon} side {side}\n")?,
         Ok(
             Answer::Side {
                 polygon,
                 next,
                 node,
             },
-        ) => Ok(format!(in heap; "polygon {polygon} next {next} node {node}\n")?.into_bytes()),
-        Ok(Answer::Arc { vertices }) => Ok(format!(in heap; "vertices {vertices}\n")?.into_bytes()),
-        Ok(Answer::Vertex(vertex)) => Ok(vertex_text(heap, vertex)?.into_bytes()),
-    }
+        ) => format!(in heap; "polygon {polygon} next {next} node {node}\n")?,
+        Ok(Answer::Arc { vertices }) => format!(in heap; "vertices {vertices}\n")?,
+        Ok(Answer::Vertex(vertex)) => vertex_text(heap, vertex)?,
+    };
+    Ok(text.into_bytes())
 }

@@ -18,7 +18,7 @@ fn meeting(table: &Records<'_, Arcs>, edges: Edges) -> Option<usize>
     ensures { unwrap_or result refused_count ≡ among table.now.file.now table.now.shape edges }
 {
     let window = Bounds::new(edges).ok()?;
-    Some(count_meeting(&*table, &window))
+    Some(count_meeting(table, &window))
 }
 
 /// How many arcs of an ARC file meet a window; the largest number when the file or the window is refused.

@@ -41,6 +41,7 @@ impl Bounds {
     }
 
     // The box whose bounds have these bits. That they are finite is judged on the bits, so that the doubles need no care for NaN.
+    // Stays: judged on the bits and without short circuits. By way of read_double and Bounds::new, and with a row's place judged by a product, the search took 1.2 to 1.5 times as long as plain Rust, which this does not.
     fn of_bits(minx: u64, maxx: u64, miny: u64, maxy: u64) -> Result<Bounds, Refusal>
         ensures { Made (edges_of_bits minx maxx miny maxy) result }
     {

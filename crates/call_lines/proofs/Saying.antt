@@ -1,14 +1,16 @@
 -- What is read of words that say a call.
-use Rattle.std.proofs.Common.{◌≡◌, ℕ, List, [], drop, Some, None, Option, Vec, MatchOption, IsSomeAnd, option_map, vec_items, refl, arith}
+use Rattle.std.proofs.Common.{◌≡◌, ℕ, Bool, true, false, cond, eqb, List, [], length, drop, String, Some, None, Option, Vec, MatchOption, IsSomeAnd, option_map, vec_items, string_bytes, refl, arith}
+use Rattle.std.specs.Bool.{then_some}
 use Rattle.std.specs.declared.alloc.Global.{Global}
+use Rattle.std.proofs.lemmas.List.{length-map}
 use Rattle.topology.specs.declared.vertex.Vertex.{Vertex}
 use Rattle.calls.specs.declared.call.Call.{Call}
 use Rattle.calls.specs.declared.call.Call.TheVariants.{Island}
 use Rattle.calls.specs.Outcomes.{with_run}
-use Rattle.line_words.specs.LineWords.{word}
+use Rattle.line_words.specs.LineWords.{texts, word}
 use Rattle.words.specs.Words.{whole_of}
 use Rattle.call_lines.specs.declared.expected.Expected.TheVariants.{IslandCall}
-use Rattle.call_lines.specs.Spoken.{call_of, Run, RunOf, Same, SaysCall}
+use Rattle.call_lines.specs.Spoken.{none, call_of, Run, RunOf, Same, SaysCall}
 
 pub no_run : Run [] []
 no_run = record { long = refl; each = λ k l. absurd (omega arith) }
@@ -19,6 +21,14 @@ pub says : {A : Type 0} (f : A → Call (List (List ℕ))) (P : A → Call (Vec 
 says f P None r h s = rw h refl
 says f P (Some a) None h s = absurd h
 says f P (Some a) (Some c) h s = (f a, refl, s a c h)
+
+-- a call without arguments
+pub alone : {Z : Type 0} (ws : List (String Z)) (call : Call (List (List ℕ))) (c : Call (Vec Vertex Global)) (r : Option (Call (Vec Vertex Global))) → r ≡ then_some (eqb (length ws) 1) c → Same call (with_run vec_items c) → SaysCall (option_map (λ _. call) (none (texts ws))) r
+alone ws call c r h s = rw (length-map ws string_bytes) (at (eqb (length ws) 1) h)
+  where
+    at : (b : Bool) → r ≡ then_some b c → SaysCall (option_map (λ _. call) (cond b (Some (tt {0})) None)) r
+    at true h = rw h (call, refl, s)
+    at false h = rw h refl
 
 -- the polygon of an island and its run, and the call that they make
 pub island_says : (ws vs : List (List ℕ)) (polygon : ℕ) (P : Vec Vertex Global → Call (Vec Vertex Global) → Type 0) (o : Option (Vec Vertex Global)) (r : Option (Call (Vec Vertex Global))) → whole_of (word ws 1) ≡ Some polygon → vs ≡ drop 2 ws → RunOf vs o

@@ -1,7 +1,7 @@
 ghost use Rattle.std.specs.Prelude.{◌≡◌, IfOk};
 ghost use Rattle.call_lines.specs.declared.expected.Expected.TheVariants.{IslandCall};
 ghost use Rattle.line_words.specs.LineWords.{texts, words_of};
-ghost use Rattle.call_lines.specs.Spoken.{none, one, two, passes, call_of, spoken, SaysCall, Says};
+ghost use Rattle.call_lines.specs.Spoken.{one, two, passes, call_of, spoken, SaysCall, Says};
 
 use super::expected::Expected;
 use super::fault::LineFault;
@@ -12,13 +12,6 @@ use line_words::texts::text_at;
 use std::alloc::{AllocError, Global};
 use topology::vertex::Vertex;
 use words::number;
-
-// Nothing, where there is no word after the first.
-fn no_number(words: &[String]) -> Option<()>
-    ensures { result ≡ none (texts words.now) }
-{
-    (words.len() == 1).then_some(())
-}
 
 // The one whole number after the first word.
 fn one_number(words: &[String]) -> Option<usize>
@@ -72,8 +65,8 @@ fn read_call(
         Expected::AnyCall => Ok(None),
         Expected::IslandCall => read_island(heap, words),
         Expected::LiftCall => Ok(one_number(words).map(|arc| Call::Lift { arc })),
-        Expected::ListCall => Ok(no_number(words).map(|()| Call::List)),
-        Expected::CountsCall => Ok(no_number(words).map(|()| Call::Counts)),
+        Expected::ListCall => Ok((words.len() == 1).then_some(Call::List)),
+        Expected::CountsCall => Ok((words.len() == 1).then_some(Call::Counts)),
         Expected::RingCall => Ok(one_number(words).map(|ring| Call::Ring { ring })),
         Expected::SideCall => Ok(one_number(words).map(|side| Call::Side { side })),
         Expected::ArcCall => Ok(one_number(words).map(|arc| Call::Arc { arc })),

@@ -1,5 +1,5 @@
 -- Digits, in one run or cut by a point.
-use Rattle.std.proofs.Common.{◌≡◌, ℕ, ◌+◌, ◌-◌, ◌*◌, ◌^◌, ◌<◌, ◌≤◌, Bool, true, false, ◌&&◌, ltb, List, [], ◌∷◌, ◌++◌, length, get_or, drop, Some, None, Option, option_and_then, sym, refl, ap, ◌∙◌, inl, inr, arith}
+use Rattle.std.proofs.Common.{◌≡◌, ℕ, ◌+◌, ◌-◌, ◌*◌, ◌^◌, ◌<◌, ◌≤◌, Bool, true, false, ◌&&◌, ltb, List, [], ◌∷◌, ◌++◌, length, get_or, drop, Some, None, Option, is_some, MatchOption, sym, refl, ap, ◌∙◌, inl, inr, arith}
 use Rattle.std.specs.Str.Parse.{digits_value_after}
 use Rattle.std.specs.Char.{digit_value, is_ascii_digit}
 use Rattle.std.specs.Int.{IsInRange}
@@ -17,7 +17,7 @@ value_rises : (n : ℕ) (ds : List ℕ) → n ≤ digits_value_after 10 n ds
 value_rises n [] = omega arith
 value_rises n (c ∷ ds) = omega (arith, value_rises (n * 10 + digit_value c) ds)
 
-digits_append : (w f : List ℕ) → all_ascii_digits (w ++ f) ≡ (all_ascii_digits w && all_ascii_digits f)
+pub digits_append : (w f : List ℕ) → all_ascii_digits (w ++ f) ≡ (all_ascii_digits w && all_ascii_digits f)
 digits_append [] f = refl
 digits_append (c ∷ w) f = elim (cases_Bool (is_ascii_digit c)) [ inl t ↦ rw t (digits_append w f) | inr e ↦ rw e refl ]
 
@@ -65,9 +65,13 @@ pub over_at : (m : ℕ) (ds : List ℕ) (i : ℕ) → i < length ds → IsInRang
 over_at m ds i l d h = at_drop_more (digits_after m) ds i 0 l ∙ digit_over m (get_or ds i 0) (drop (i + 1) ds) d h
 
 -- a short text: the digits before the point, and then those after it
-pub plain_steps : (bs w f : List ℕ) (o : Option ℕ) → w ≡ before_point bs → f ≡ after_point bs → true ≡ is_short (length w) (length f) → o ≡ digits_after 0 w → plain bs ≡ with_places true (length f) (option_and_then (λ n. digits_after n f) o)
-plain_steps bs w f o p q s e = rw (← p, ← q, ← s) (ap (with_places true (length f)) (at o (sym e)))
+pub plain_steps : (bs w f : List ℕ) (o r : Option ℕ) (Q : ℕ → Type 0) → w ≡ before_point bs → f ≡ after_point bs → true ≡ is_short (length w) (length f) → o ≡ digits_after 0 w → ((n : ℕ) → Q n → r ≡ digits_after n f) → MatchOption o (r ≡ None) Q → is_some r ≡ is_some (plain bs)
+plain_steps bs w f o r Q p q s e k h = rw (← p, ← q, ← s) (at o (sym e) h)
   where
-    at : (o : Option ℕ) → digits_after 0 w ≡ o → digits_after 0 (w ++ f) ≡ option_and_then (λ n. digits_after n f) o
-    at None e = none_first 0 w f e
-    at (Some n) e = some_first 0 n w f e
+    some_places : (p : ℕ) (o r : Option ℕ) → o ≡ r → is_some r ≡ is_some (with_places true p o)
+    some_places p None r e = ap is_some (sym e)
+    some_places p (Some n) r e = ap is_some (sym e)
+
+    at : (o : Option ℕ) → digits_after 0 w ≡ o → MatchOption o (r ≡ None) Q → is_some r ≡ is_some (with_places true (length f) (digits_after 0 (w ++ f)))
+    at None e h = some_places (length f) _ r (none_first 0 w f e ∙ sym h)
+    at (Some n) e h = some_places (length f) _ r (some_first 0 n w f e ∙ sym (k n h))

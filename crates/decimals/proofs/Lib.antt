@@ -1,4 +1,3 @@
 mod Cuts
 mod DigitValues
 pub mod FloatTexts
-mod Quotients

@@ -1,5 +1,5 @@
 -- Plain decimal numbers: a sign or none, and digits with at most one point.
-use Rattle.std.specs.Prelude.{ℕ, ◌^◌, ◌<◌, ◌≤◌, Bool, true, false, cond, ◌&&◌, ◌||◌, List, [], ◌∷◌, ◌++◌, length, Some, None, Option, ◌==◌, nat_le, nat_lt, Float}
+use Rattle.std.specs.Prelude.{ℕ, ◌^◌, Bool, true, false, cond, ◌&&◌, ◌||◌, List, [], ◌∷◌, ◌++◌, length, Some, None, Option, ◌==◌, nat_le, nat_lt, Float}
 use Rattle.std.specs.Float.{binary64}
 use Rattle.std.specs.Float.Ieee.{round}
 use Rattle.std.specs.Float.Parse.{without_sign}
@@ -47,8 +47,3 @@ nearest_double s (Some (n, p)) = Some (round binary64 s n (10 ^ p))
 -- the double nearest to the number that a plain text writes
 abbrev pub plain_of : List ℕ → Option Float
 plain_of bs = nearest_double (starts_with_minus bs) (plain (without_sign bs))
-
--- the parts of a plain number are such that the quotient of the two is rounded once
-abbrev pub Few : Option (ℕ × ℕ) → Type 0
-Few None = Unit {0}
-Few (Some (n, p)) = (n < 2 ^ 53) × (p ≤ 15)

@@ -1,13 +1,9 @@
 // Plain decimal numbers in text, as the doubles that are nearest to them.
 #![tactic(auto)]
 
-ghost use Rattle.std.specs.Prelude.{◌≡◌, ◌^◌, ◌<◌, ◌≤◌, false, ◌++◌, length, drop, IfSome, slice_index};
-ghost use Rattle.std.specs.Float.{binary64};
-ghost use Rattle.std.specs.Float.Ieee.{round};
+ghost use Rattle.std.specs.Prelude.{◌≡◌, ◌^◌, ◌<◌, is_some, IfSome};
 ghost use Rattle.std.specs.Float.Parse.{without_sign};
-ghost use Rattle.decimals.specs.Plain.{before_point, after_point, digits_after, is_short, plain, Few, nearest_double, plain_of};
-
-use std::num::nearest_u64_to_f64;
+ghost use Rattle.decimals.specs.Plain.{before_point, after_point, digits_after, is_short, plain, plain_of};
 
 // Doubles hold every whole number up to this one.
 const LIMIT: u64 = 0x20_0000_0000_0000;
@@ -53,26 +49,15 @@ fn is_short(whole: usize, places: usize) -> bool
     (whole > 0 || places > 0) && places <= 15
 }
 
-// Digits with at most one point: the number that they write without it, and how many stand after it.
-fn plain_parts(text: &str) -> Option<(u64, usize)>
-    ensures parts { result ≡ plain text.now }
-    ensures few { Few result }
+// Whether a text is one digit or more with at most one point, not too many of them after it, and without it a number below the limit.
+fn is_plain(text: &str) -> bool
+    ensures { result ≡ is_some (plain text.now) }
 {
     let (whole, fraction) = parts(text);
-    if !is_short(whole.len(), fraction.len()) {
-        return None;
-    }
-    let first = digits_after(0, whole)?;
-    let n = digits_after(first, fraction)?;
-    Some((n, fraction.len()))
-}
-
-// The double nearest to n / 10 ^ places: both are doubles, and the quotient is rounded once.
-fn quotient(n: u64, places: usize) -> f64
-    requires { (n < 2 ^ 53) × (places ≤ 15) }
-    ensures { result ≡ round binary64 false n (10 ^ places) }
-{
-    nearest_u64_to_f64(n) / nearest_u64_to_f64(10u64.pow(places as u32))
+    is_short(whole.len(), fraction.len())
+        && digits_after(0, whole)
+            .and_then(|n| digits_after(n, fraction))
+            .is_some()
 }
 
 /// The double nearest to the number that a plain text writes: a sign or none, digits with at most one point, at most 15 of them after it,
@@ -80,7 +65,9 @@ fn quotient(n: u64, places: usize) -> f64
 pub fn plain_decimal(text: &str) -> Option<f64>
     ensures { result ≡ plain_of text.now }
 {
-    let (n, places) = plain_parts(unsigned(text))?;
-    let x = quotient(n, places);
-    Some(if text.starts_with('-') { -x } else { x })
+    if is_plain(unsigned(text)) {
+        text.parse().ok()
+    } else {
+        None
+    }
 }

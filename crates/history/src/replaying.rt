@@ -27,7 +27,7 @@ pub fn replay<R: AsSlice<Vertex>>(
     if told.len() < calls.len() {
         return Err(Refusal::DoesNotFit);
     }
-    // Stays: told is written by its index, since a zip with told.iter_mut() leaves no fact about what was written.
+    // Stays: tried, and the proof did not close: a zip of the calls with told.iter_mut() leaves no fact about what was written to told.
     for (i, call) in calls.iter().enumerate() {
         told[i] = play(map, call, text);
     }

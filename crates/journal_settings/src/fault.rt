@@ -1,7 +1,8 @@
+use std::error::Error;
 use std::fmt;
 
 /// What is wrong with the words of a command line.
-#[derive(Clone, Copy, Debug, Drop)]
+#[derive(Clone, Copy, PartialEq, Eq, Debug)]
 pub enum Fault {
     Usage,
     WrongHand,
@@ -21,3 +22,5 @@ impl fmt::Display for Fault {
         })
     }
 }
+
+impl Error for Fault {}

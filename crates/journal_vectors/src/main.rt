@@ -32,6 +32,7 @@ fn play(rt: &HostRuntime, map: &mut Map, path: &str) -> anyhow::Result<()> {
 }
 
 // A journal, played on a blank map.
+// Stays: `sheet_journal` says what is wrong where tables find no memory, and here the error ends the run. What the two share is three lines.
 fn run(rt: &HostRuntime, path: &str, settings: Settings) -> anyhow::Result<()> {
     let heap = rt.alloc();
     let mut sides = vec![in heap; Side::default(); settings.sides]?;

@@ -34,7 +34,6 @@ impl fmt::Display for Version {
     }
 }
 
-// Stays: each match leads to one of two types. To choose by `dyn` or by a closure needs a value of each edition, and is no plainer.
 impl Version {
     /// The number of an edition.
     pub fn name(self) -> &'static str
@@ -45,7 +44,10 @@ impl Version {
             Version::V20 => "2.0",
         }
     }
+}
 
+// Stays: the editions are types under one trait, their sizes constants, and the version that a file tells chooses between the two types in each match. To choose by `dyn` or by a closure needs a value of each edition, and is no plainer.
+impl Version {
     /// The sizes of this edition.
     pub fn sizes(self) -> Sizes
         ensures { result ≡ sizes (width self) }

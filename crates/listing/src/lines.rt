@@ -1,5 +1,5 @@
 // The lines of a listing.
-ghost use Rattle.std.specs.Prelude.{◌≡◌, ◌≤◌, length};
+ghost use Rattle.std.specs.Prelude.{◌≡◌, ◌<◌, ◌≤◌, length};
 ghost use Rattle.rings.specs.Circles.{ring};
 ghost use Rattle.topology.specs.Rows.{next_of, polygon_of, tells};
 ghost use Rattle.topology.specs.States.{state_of};
@@ -19,6 +19,7 @@ fn side_count(map: &Map<'_>) -> usize
 }
 
 // The next side of a side.
+// Stays: 0 stands for a refusal that does not come, since put_sides asks for sides that there are. Where that is required, the check wants the side in range as one more fact of the loop there, to be shown by the law of the map, and it is no plainer.
 fn next_side(map: &Map<'_>, side: usize) -> usize
     ensures { result ≡ next_of (state_of map.now).sides side }
 {
@@ -27,19 +28,25 @@ fn next_side(map: &Map<'_>, side: usize) -> usize
 
 // The polygon of a side.
 fn side_polygon(map: &Map<'_>, side: usize) -> usize
+    requires { side < length (state_of map.now).sides }
     ensures { result ≡ polygon_of (state_of map.now).sides side }
 {
-    map.polygon(side).unwrap_or(0)
+    let Ok(polygon) = map.polygon(side) else {
+        unreachable!()
+    };
+    polygon
 }
 
 // Whether a side is the lowest of its ring.
 fn starts_ring(map: &Map<'_>, side: usize) -> bool
+    requires { side < length (state_of map.now).sides }
     ensures { result ≡ tells (state_of map.now).sides side }
 {
-    map.lowest(side).unwrap_or(0) == side
+    map.lowest(side) == Ok(side)
 }
 
 // The sides of the ring that a side starts.
+// Stays: the map and the writer go together here and in the functions below. A struct of the two would be made for one call.
 // Stays: the range bounds a walk along the ring. A `loop` needs the sides left of it as its measure, and is no plainer.
 fn put_sides(map: &Map<'_>, to: &mut Writer<'_>, start: usize)
     requires { HasRoom to.old (length (sides_text (ring (next_of (state_of map.now).sides) (length (state_of map.now).sides) start))) }
@@ -58,7 +65,7 @@ fn put_sides(map: &Map<'_>, to: &mut Writer<'_>, start: usize)
 
 // The line of the ring that a side starts.
 fn put_ring(map: &Map<'_>, to: &mut Writer<'_>, start: usize)
-    requires { HasRoom to.old (length (ring_line (state_of map.now) (ring (next_of (state_of map.now).sides) (length (state_of map.now).sides) start))) }
+    requires { (start < length (state_of map.now).sides) × HasRoom to.old (length (ring_line (state_of map.now) (ring (next_of (state_of map.now).sides) (length (state_of map.now).sides) start))) }
     ensures { Puts to.old to.new (ring_line (state_of map.now) (ring (next_of (state_of map.now).sides) (length (state_of map.now).sides) start)) }
 {
     to.put_number(side_polygon(map, start));

@@ -7,7 +7,7 @@ use refusal::Refusal;
 /// The numbers of some of the 128 pages, none above 127 and none twice.
 #[derive(Clone, Copy)]
 pub struct PageList {
-    // Stays: an array and how much of it is used, since the library has no heap.
+    // Stays: an array and how much of it is used, since the library has no heap, and a list that borrowed the numbers would have the caller keep them for as long as the medium.
     list: [u8; 128],
     len: usize,
     ghost few: { len ≤ 128 },

@@ -19,11 +19,11 @@ fn report_boxed<K: BoxedKind>(
     table: &Records<'_, K>,
     window: Option<Bounds>,
 ) -> Result<String, AllocError>
-    ensures { IfOk result (λ s. string_bytes s ≡ text_on K.RecordKind.kind table.now.file.now table.now.shape (wanted_by K.RecordKind.kind K.BoxedKind.edges table.now.file.now table.now.shape (option_map edges_of window))) }
+    ensures { IfOk result (λ s. string_bytes s ≡ text_on K.RecordKind.KIND table.now.file.now table.now.shape (wanted_by K.RecordKind.KIND K.BoxedKind.edges table.now.file.now table.now.shape (option_map edges_of window))) }
 {
     match window {
-        Some(w) => report_found(heap, K::kind(), table.version(), &*table, &w),
-        None => report_all(heap, K::kind(), table.version(), &*table),
+        Some(w) => report_found(heap, K::KIND, table.version(), table, &w),
+        None => report_all(heap, K::KIND, table.version(), table),
     }
 }
 
@@ -35,7 +35,7 @@ fn report_view(heap: Global, view: &View<'_>, window: Option<Bounds>) -> Result<
         View::OfPoints(t) => report_boxed(heap, t, window)?,
         View::OfArcs(t) => report_boxed(heap, t, window)?,
         View::OfNodes(_) if window.is_some() => return Err(Unanswered::NoBoxes),
-        View::OfNodes(t) => report_all(heap, Kind::Nodes, t.version(), &*t)?,
+        View::OfNodes(t) => report_all(heap, Kind::Nodes, t.version(), t)?,
         View::OfPolygons(t) => report_boxed(heap, t, window)?,
     })
 }

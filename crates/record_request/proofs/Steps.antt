@@ -3,14 +3,12 @@ use Rattle.std.proofs.Common.{◌≡◌, ℕ, zero, suc, ◌+◌, ◌<◌, Bool,
 use Rattle.std.specs.Option.{option_or}
 use Rattle.std.proofs.lemmas.List.{length-map}
 use Rattle.std.proofs.lemmas.Bool.{false≢true}
-use Rattle.std.proofs.Math.Bool.{and-false}
-use Rattle.std.specs.Str.{bytes_eq}
 use Rattle.boxes.specs.declared.edges.Edges.{Edges}
 use Rattle.line_words.specs.LineWords.{texts}
 use Rattle.record_request.specs.declared.Fault.{Fault}
 use Rattle.record_request.specs.declared.Fault.TheVariants.{Window}
 use Rattle.record_request.specs.declared.Options.{Options}
-use Rattle.record_request.specs.Requests.{Corners, Given, corners, joined, with_window, is_new, options, Drawn, Bounded, WindowGiven}
+use Rattle.record_request.specs.Requests.{Corners, Given, corners, joined, with_window, options, Drawn, Bounded, WindowGiven}
 
 -- a window that was given before, or else the later one
 abbrev pub BoundedAfter : Option Edges → Option Corners → Option Edges → Type 0
@@ -32,8 +30,8 @@ skip (suc k) a w [] = refl
 skip (suc k) a w (x ∷ ws) = skip k a w ws
 
 -- the first word is a new `--window`
-window_step : (a w : Bool) (x : List ℕ) (ws : List (List ℕ)) → is_new x (codes "--arcs") a ≡ false → is_new x (codes "--window") w ≡ true → options 0 a w (x ∷ ws) ≡ joined with_window (ok_or (corners ws) Window) (options 0 a true (drop 4 ws))
-window_step a w x ws n e = rw (n, e) (ap (joined with_window (ok_or (corners ws) Window)) (skip 4 a true ws))
+window_step : (a : Bool) (ws : List (List ℕ)) → options 0 a false (codes "--window" ∷ ws) ≡ joined with_window (ok_or (corners ws) Window) (options 0 a true (drop 4 ws))
+window_step a ws = ap (joined with_window (ok_or (corners ws) Window)) (skip 4 a true ws)
 
 -- the window that was read, and the options after it
 adds_window : (a : Option ℕ) (w : Option Edges) (e : Edges) (c : Corners) (m : Result Given Fault) (r : Result Options Fault) → is_some w ≡ false → Drawn c e → Adds (record { arcs = a; window = Some e }) m r
@@ -44,13 +42,9 @@ adds_window a None e c (Err f) (Err q) n d h = h
 adds_window a None e c (Ok g) (Err q) n d h = h
 adds_window a None e c (Ok g) (Ok p) n d h = (h.0, subst (λ v. Bounded (Some c) v) (sym h.1) d)
 
-new_none : (x name : List ℕ) (given : Bool) → is_new x name given ≡ true → given ≡ false
-new_none x name true e = absurd (false≢true (sym (and-false (bytes_eq x name)) ∙ e))
-new_none x name false e = refl
-
-module _ {Z : Type 0} (o : Options) (ws : List (String Z)) (x : String Z) (rest : List (String Z)) (split : ws ≡ x ∷ rest) (other : false ≡ is_new (string_bytes x) (codes "--arcs") (is_some o.arcs)) (new : true ≡ is_new (string_bytes x) (codes "--window") (is_some o.window)) where
+module _ {Z : Type 0} (o : Options) (ws : List (String Z)) (x : String Z) (rest : List (String Z)) (split : ws ≡ x ∷ rest) (text : List ℕ) (said : text ≡ string_bytes x) (named : text ≡ codes "--window") (new : is_some o.window ≡ false) where
   stepped : options 0 (is_some o.arcs) (is_some o.window) (texts ws) ≡ joined with_window (ok_or (corners (texts rest)) Window) (options 0 (is_some o.arcs) true (drop 4 (texts rest)))
-  stepped = ap (λ (l : List (String Z)). options 0 (is_some o.arcs) (is_some o.window) (texts l)) split ∙ window_step (is_some o.arcs) (is_some o.window) (string_bytes x) (texts rest) (sym other) (sym new)
+  stepped = ap (λ (l : List (String Z)). options 0 (is_some o.arcs) (is_some o.window) (texts l)) split ∙ ap (λ n. options 0 (is_some o.arcs) (is_some o.window) (n ∷ texts rest)) (sym said ∙ named) ∙ ap (λ w. options 0 (is_some o.arcs) w (codes "--window" ∷ texts rest)) new ∙ window_step (is_some o.arcs) (texts rest)
 
   pub window_joined : (e : Edges) (later : List (String Z)) (r : Result Options Fault) → WindowGiven (corners (texts rest)) (Ok e) → texts later ≡ drop 4 (texts rest)
       → Adds (record { arcs = o.arcs; window = Some e }) (options 0 (is_some o.arcs) true (texts later)) r → Adds o (options 0 (is_some o.arcs) (is_some o.window) (texts ws)) r
@@ -58,7 +52,7 @@ module _ {Z : Type 0} (o : Options) (ws : List (String Z)) (x : String Z) (rest 
     where
       at : (c : Option Corners) → WindowGiven c (Ok e) → Adds o (joined with_window (ok_or c Window) (options 0 (is_some o.arcs) true (drop 4 (texts rest)))) r
       at None i = absurd i
-      at (Some c) i = adds_window o.arcs o.window e c (options 0 (is_some o.arcs) true (drop 4 (texts rest))) r (new_none (string_bytes x) (codes "--window") (is_some o.window) (sym new)) i (subst (λ l. Adds (record { arcs = o.arcs; window = Some e }) (options 0 (is_some o.arcs) true l) r) l k)
+      at (Some c) i = adds_window o.arcs o.window e c (options 0 (is_some o.arcs) true (drop 4 (texts rest))) r new i (subst (λ l. Adds (record { arcs = o.arcs; window = Some e }) (options 0 (is_some o.arcs) true l) r) l k)
 
   pub window_fault : (f : Fault) → WindowGiven (corners (texts rest)) (Err f) → Adds o (options 0 (is_some o.arcs) (is_some o.window) (texts ws)) (Err f)
   window_fault f h = rw stepped (at (corners (texts rest)) h)

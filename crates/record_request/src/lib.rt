@@ -8,7 +8,8 @@ ghost use Rattle.line_words.specs.LineWords.{texts, word};
 ghost use Rattle.record_request.specs.Requests.{arcs_option, corners, WindowGiven, is_new, options, Gives, asked, Answers};
 
 use boxes::edges::Edges;
-use line_words::texts::{after, is, text_at};
+use line_words::texts::{after, text_at};
+use std::error::Error;
 use std::fmt;
 use words::{character, decimal, whole};
 
@@ -22,7 +23,7 @@ pub struct Request {
 }
 
 /// What is wrong with the words of a request.
-#[derive(Clone, Copy, Debug, Drop)]
+#[derive(Clone, Copy, PartialEq, Eq, Debug)]
 pub enum Fault {
     Usage,
     Letter,
@@ -43,6 +44,8 @@ impl fmt::Display for Fault {
         })
     }
 }
+
+impl Error for Fault {}
 
 // What the options of a request give.
 #[derive(Clone, Copy, Default)]
@@ -79,13 +82,6 @@ fn window_option(words: &[String]) -> Result<Edges, Fault>
     })
 }
 
-// Whether a word is the named option, which was not given before.
-fn is_new<A: Copy>(word: &str, name: &str, before: Option<A>) -> bool
-    ensures { result ≡ is_new word.now name.now (is_some before) }
-{
-    is(word, name) && before.is_none()
-}
-
 // What the options give.
 fn read_options(words: &[String]) -> Result<Options, Fault>
     ensures { Gives (options 0 false false (texts words.now)) result }
@@ -93,14 +89,16 @@ fn read_options(words: &[String]) -> Result<Options, Fault>
     let mut given = Options::default();
     let mut rest = words;
     while let Some((word, values)) = rest.split_first() {
-        if is_new(word.as_str(), "--arcs", given.arcs) {
-            given.arcs = Some(arcs_option(values)?);
-            rest = after(values, 1);
-        } else if is_new(word.as_str(), "--window", given.window) {
-            given.window = Some(window_option(values)?);
-            rest = after(values, 4);
-        } else {
-            return Err(Fault::Usage);
+        match word.as_str() {
+            "--arcs" if given.arcs.is_none() => {
+                given.arcs = Some(arcs_option(values)?);
+                rest = after(values, 1);
+            }
+            "--window" if given.window.is_none() => {
+                given.window = Some(window_option(values)?);
+                rest = after(values, 4);
+            }
+            _ => return Err(Fault::Usage),
         }
     }
     Ok(given)

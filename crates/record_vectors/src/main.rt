@@ -1,6 +1,7 @@
 // Answers every request of the file `cases`, one to a line, as sheet_records does, and prints each after its request.
 #![tactic(auto)]
 
+use line_words::splitting::split_words;
 use record_answer::unanswered::Unanswered;
 use record_reply::{Failure, reply};
 use std::alloc::AllocError;
@@ -9,11 +10,7 @@ use std::fs;
 // One request and its answer.
 fn one_case(rt: &HostRuntime, line: &str) -> anyhow::Result<()> {
     println!(rt; "> {line}")?;
-    let heap = rt.alloc();
-    let mut words = Vec::new(heap);
-    for word in line.split(' ') {
-        words.push(String::from_str(heap, word)?)?;
-    }
+    let words = split_words(rt.alloc(), line)?;
     match reply(rt, words.as_slice()) {
         Ok(text) => print!(rt; "{text}")?,
         Err(Failure::Unread(_, e)) => return Err(e.into()),

@@ -12,12 +12,10 @@ use refusal::Refusal;
 
 /// A kind of record, as a type.
 pub trait RecordKind {
-    ghost kind: { Kind };
+    ghost KIND: { Kind };
 
-    // Stays: a constant would need a ghost member of its value beside it in each kind too.
     /// The kind of file that has such records.
-    fn kind() -> Kind
-        ensures { result ≡ kind };
+    const KIND: Kind;
 }
 
 /// A kind of record that has a box: points, arcs and polygons. Nodes have none.
@@ -31,7 +29,7 @@ pub trait BoxedKind: RecordKind {
     fn read_bounds(bytes: &[u8]) -> Result<Bounds, Refusal>
         ensures { BoxRead bytes.now 0 extent (edges bytes.now) result };
 
-    ghost within: { (w : ℕ) → extent ≤ record_size Self.RecordKind.kind w };
+    ghost within: { (w : ℕ) → extent ≤ record_size Self.RecordKind.KIND w };
 }
 
 pub struct Points;
@@ -43,35 +41,27 @@ pub struct Nodes;
 pub struct Polygons;
 
 impl RecordKind for Points {
-    ghost kind = { PointKind };
+    ghost KIND = { PointKind };
 
-    fn kind() -> Kind {
-        Kind::Points
-    }
+    const KIND: Kind = Kind::Points;
 }
 
 impl RecordKind for Arcs {
-    ghost kind = { ArcKind };
+    ghost KIND = { ArcKind };
 
-    fn kind() -> Kind {
-        Kind::Arcs
-    }
+    const KIND: Kind = Kind::Arcs;
 }
 
 impl RecordKind for Nodes {
-    ghost kind = { NodeKind };
+    ghost KIND = { NodeKind };
 
-    fn kind() -> Kind {
-        Kind::Nodes
-    }
+    const KIND: Kind = Kind::Nodes;
 }
 
 impl RecordKind for Polygons {
-    ghost kind = { PolygonKind };
+    ghost KIND = { PolygonKind };
 
-    fn kind() -> Kind {
-        Kind::Polygons
-    }
+    const KIND: Kind = Kind::Polygons;
 }
 
 // A point is its own box.

@@ -68,21 +68,21 @@ impl<'a, K: RecordKind> Records<'a, K> {
 
     /// Record k, for as long as the file is held.
     pub fn record_of(&self, k: usize) -> Result<Part<'a>, Refusal>
-        ensures { Handed self.now.file.now (record_outcome K.RecordKind.kind self.now.file.now self.now.shape k) result }
+        ensures { Handed self.now.file.now (record_outcome K.RecordKind.KIND self.now.file.now self.now.shape k) result }
     {
         if k >= self.shape.count {
             return Err(Refusal::NoSuchElement);
         }
-        let size = self.version().sizes().record(K::kind());
+        let size = self.version().sizes().record(K::KIND);
         Part::of_row(self.file, self.shape.first, k, size)
     }
 
     /// The list of record k, for as long as the file is held.
     pub fn list_of(&self, k: usize) -> Result<Part<'a>, Refusal>
-        ensures { Handed self.now.file.now (list_outcome K.RecordKind.kind self.now.file.now self.now.shape k) result }
+        ensures { Handed self.now.file.now (list_outcome K.RecordKind.KIND self.now.file.now self.now.shape k) result }
     {
         let record = self.record_of(k)?;
-        let kind = K::kind();
+        let kind = K::KIND;
         let (place, count) = list_head(kind, self.version(), self.file, record.place)?;
         let entry = self.version().sizes().list_entry(kind);
         Part::of_entries(self.file, place, count, entry)
@@ -94,9 +94,9 @@ impl<'a, K: RecordKind> RecordTable for Records<'a, K> {
 
     ghost count = { λ t. t.shape.count };
 
-    ghost place = { λ t k. record_outcome K.RecordKind.kind t.file.now t.shape k };
+    ghost place = { λ t k. record_outcome K.RecordKind.KIND t.file.now t.shape k };
 
-    ghost list_place = { λ t k. list_outcome K.RecordKind.kind t.file.now t.shape k };
+    ghost list_place = { λ t k. list_outcome K.RecordKind.KIND t.file.now t.shape k };
 
     fn len(&self) -> usize {
         self.shape.count
@@ -112,7 +112,7 @@ impl<'a, K: RecordKind> RecordTable for Records<'a, K> {
 }
 
 impl<'a, K: BoxedKind> BoxedTable for Records<'a, K> {
-    ghost boxes = { λ t k. box_outcome K.RecordKind.kind K.BoxedKind.edges t.file.now t.shape k };
+    ghost boxes = { λ t k. box_outcome K.RecordKind.KIND K.BoxedKind.edges t.file.now t.shape k };
 
     fn bounds(&self, k: usize) -> Result<Bounds, Refusal> {
         let record = self.record_of(k)?;

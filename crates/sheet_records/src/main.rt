@@ -8,10 +8,7 @@ use std::process::ExitCode;
 
 // A refusal is a reply too; what else is wrong is said in one line on standard error. Both end with status 1.
 fn main(rt: HostRuntime) -> anyhow::Result<ExitCode> {
-    let mut words = Vec::new(rt.alloc());
-    for word in env::args(&rt)?.skip(1) {
-        words.push(word)?;
-    }
+    let words: Vec<String> = env::args(&rt)?.skip(1).collect(rt.alloc())?;
     match reply(&rt, words.as_slice()) {
         Ok(text) => {
             print!(rt; "{text}")?;

@@ -1,5 +1,5 @@
 -- A map whose table of sides has lost those of an arc between two rings.
-use Rattle.std.proofs.Common.{◌≡◌, ℕ, suc, ◌+◌, ◌-◌, ◌/◌, ◌<◌, ◌≤◌, false, ◌&&◌, ◌||◌, ltb, List, map, length, get_or, take, drop, set, Ok, Err, sym, refl, ap, ◌∙◌, subst, arith}
+use Rattle.std.proofs.Common.{◌≡◌, ℕ, suc, ◌+◌, ◌-◌, ◌/◌, ◌<◌, ◌≤◌, false, ◌&&◌, ◌||◌, ltb, cond, eqb, List, map, length, get_or, take, drop, set, Ok, Err, sym, refl, ap, ◌∙◌, subst, arith}
 use Rattle.std.proofs.lemmas.Bool.{lt-ltb, cond-true, cond-false}
 use Rattle.refusal.specs.declared.Refusal.TheVariants.{NoSuchElement, SidesShareRing, RingsAlone}
 use Rattle.rings.specs.Circles.{rings, meets}
@@ -23,6 +23,7 @@ use Rattle.topology.proofs.FreedRows.{back_rows, back_long, back_rest}
 use Rattle.topology.proofs.Growth.{held_used}
 use Rattle.topology.proofs.Shrinking.{removed_used}
 use Rattle.topology.proofs.Assembling.{lawful_at, lawful_of, state_from}
+use Rattle.topology.proofs.LiftDone.{left_told}
 use Rattle.topology.proofs.DissolveLaw.{dissolve_lawful, dissolve_rings, dissolve_meets, node_room}
 
 free_long : (us : List Side) (node a : ℕ) → length (freed us node a) ≡ length us
@@ -65,10 +66,16 @@ module _ (m : Map) (a : ℕ) (here : a < arc_count (state_of m)) (apart : share_
   pub room : m.nodes + 1 ≤ m.sides.used
   room = omega (arith, node_room us vs m.nodes m.polygons z a two_more low L apart some, two_more, sides_long)
 
-  module _ (t s w : Table Side) (c : Renumbering) (left : ℕ) (free : Holds m.sides t (freed (state_of m).sides m.nodes a))
-      (numbers : c ≡ lift_numbers (take t.used t.rows.now) (m.nodes + 1) m.polygons a) (shrunk : Holds t s (map (renumbered c) (rows_without (take t.used t.rows.now) a)))
+  module _ (t s w : Table Side) (ys : List Side) (c : Renumbering) (left : ℕ) (free : Holds m.sides t (freed (state_of m).sides m.nodes a))
+      (rows : ys ≡ take t.used t.rows.now) (given : c ≡ lift_numbers ys (m.nodes + 1) m.polygons a) (shrunk : Holds t s (map (renumbered c) (rows_without (take t.used t.rows.now) a)))
       (back : PutBack s w (get_or m.sides.rows.now (m.sides.used - 2) no_side) (get_or m.sides.rows.now (m.sides.used - 1) no_side))
-      (lefts : left ≡ polygons_left us₁ m.polygons a) where
+      (told : left ≡ cond (eqb c.polygon c.into) m.polygons (m.polygons - 1)) where
+    numbers : c ≡ lift_numbers (take t.used t.rows.now) (m.nodes + 1) m.polygons a
+    numbers = given ∙ ap (λ (zs : List Side). lift_numbers zs (m.nodes + 1) m.polygons a) rows
+
+    lefts : left ≡ polygons_left us₁ m.polygons a
+    lefts = left_told (take t.used t.rows.now) us₁ c (m.nodes + 1) m.polygons a left free.rows numbers told
+
     abbrev full : List Side
     full = m.sides.rows.now
 

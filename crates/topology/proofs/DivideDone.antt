@@ -47,7 +47,7 @@ told_onto w t u xs s p h k =
 
 -- ---- the state after a division
 
-module _ (m : Map) (first second : ℕ) (run : List Vertex) (named : ArcSide) (ins : (first < length (state_of m).sides) × (second < length (state_of m).sides))
+module _ (m : Map) (first second : ℕ) (run : List Vertex) (named : ArcSide) (first_in : first < length (state_of m).sides) (second_in : second < length (state_of m).sides)
     (share : meets (next_of (state_of m).sides) (length (state_of m).sides) first second ≡ true) where
   abbrev us : List Side
   us = (state_of m).sides
@@ -80,10 +80,10 @@ module _ (m : Map) (first second : ℕ) (run : List Vertex) (named : ArcSide) (i
   us' = divided_sides us first second (length vs) (length vs + (length run - 1)) named m.polygons
 
   p : (p : ℕ) × (p < n) × (f p ≡ first)
-  p = came_before f n first L.in_rings ins.0
+  p = came_before f n first L.in_rings first_in
 
   q : (q : ℕ) × (q < n) × (f q ≡ second)
-  q = came_before f n second L.in_rings ins.1
+  q = came_before f n second L.in_rings second_in
 
   which : ((pu ≡ m.polygons) × (pt ≡ old)) ⊎ ((pu ≡ old) × (pt ≡ m.polygons))
   which = by named
@@ -95,7 +95,7 @@ module _ (m : Map) (first second : ℕ) (run : List Vertex) (named : ArcSide) (i
   pub linked_ringed : Ringed (next_of xs) (length xs)
   linked_ringed =
       subst (Ringed (next_of xs)) (sym (linked_long us first second (length vs) (length vs + (length run - 1))))
-      (linked_rings us vs run m.nodes m.polygons first second p.0 q.0 pu pt L ins.0 ins.1 p.1 q.1 p.2 q.2 share)
+      (linked_rings us vs run m.nodes m.polygons first second p.0 q.0 pu pt L first_in second_in p.1 q.1 p.2 q.2 share)
 
   pub linked_used : length xs ≡ n + 2
   linked_used = linked_long us first second (length vs) (length vs + (length run - 1))
@@ -114,7 +114,7 @@ module _ (m : Map) (first second : ℕ) (run : List Vertex) (named : ArcSide) (i
   code_old = (get_or m.sides.rows.now first no_side).polygon
 
   same_old : code_old ≡ old
-  same_old = ap (λ (r : Side). r.polygon) (in_use m.sides.rows.now m.sides.used first no_side (omega (arith, sides_long, ins.0)))
+  same_old = ap (λ (r : Side). r.polygon) (in_use m.sides.rows.now m.sides.used first no_side (omega (arith, sides_long, first_in)))
 
   pub linked_held : (t : Table Side) → Holds m.sides t code_links → Holds m.sides t xs
   linked_held t h = subst (λ (k : ℕ). Holds m.sides t (linked us first second k (k + (length run - 1)))) (sym vertices_long) h
@@ -126,12 +126,16 @@ module _ (m : Map) (first second : ℕ) (run : List Vertex) (named : ArcSide) (i
       (subst (λ (w : ℕ). Holds m.sides u (ring_told xs m.sides.used w)) (e ∙ ap (unturned_polygon named m.polygons) same_old)
       (told_onto m.sides t u xs m.sides.used v (linked_held t h) k))
 
-  pub second_held : (u w : Table Side) (v : ℕ) → v ≡ turned_polygon named m.polygons code_old → Holds m.sides u (ring_told xs n pu) →
+  second_held : (u w : Table Side) (v : ℕ) → v ≡ turned_polygon named m.polygons code_old → Holds m.sides u (ring_told xs n pu) →
       Holds u w (ring_told (take u.used u.rows.now) (m.sides.used + 1) v) → Holds m.sides w us'
   second_held u w v e h k =
       subst (λ (j : ℕ). Holds m.sides w (ring_told (ring_told xs n pu) (j + 1) pt)) (sym sides_long)
       (subst (λ (z : ℕ). Holds m.sides w (ring_told (ring_told xs n pu) (m.sides.used + 1) z)) (e ∙ ap (turned_polygon named m.polygons) same_old)
       (told_onto m.sides u w (ring_told xs n pu) (m.sides.used + 1) v h k))
+
+  pub both_held : (t u w : Table Side) (x y : ℕ) → x ≡ unturned_polygon named m.polygons code_old → y ≡ turned_polygon named m.polygons code_old →
+      Holds m.sides t code_links → Holds t u (ring_told (take t.used t.rows.now) m.sides.used x) → Holds u w (ring_told (take u.used u.rows.now) (m.sides.used + 1) y) → Holds m.sides w us'
+  both_held t u w x y a b h k l = second_held u w y b (first_held t u x a h k) l
 
   -- what such a table of so many rows asks of the walks
   pub walkable : (t : Table Side) (ys : List Side) → Holds m.sides t ys → length ys ≡ n + 2 → Ringed (next_of ys) (length ys) →
@@ -139,10 +143,10 @@ module _ (m : Map) (first second : ℕ) (run : List Vertex) (named : ArcSide) (i
   walkable t ys h e r = (held_rings m.sides t ys h r, omega (arith, held_used m.sides t ys h, e, sides_long))
 
   same_next : next_of us' ≡ next_of xs
-  same_next = next' us vs run m.nodes m.polygons first second p.0 q.0 pu pt L ins.0 ins.1 p.1 q.1 p.2 q.2 share
+  same_next = next' us vs run m.nodes m.polygons first second p.0 q.0 pu pt L first_in second_in p.1 q.1 p.2 q.2 share
 
   so_long : length us' ≡ n + 2
-  so_long = long' us vs run m.nodes m.polygons first second p.0 q.0 pu pt L ins.0 ins.1 p.1 q.1 p.2 q.2 share
+  so_long = long' us vs run m.nodes m.polygons first second p.0 q.0 pu pt L first_in second_in p.1 q.1 p.2 q.2 share
 
   -- from the linked sides to those that are told
   moved : (P : (ℕ → ℕ) → ℕ → ℕ → Type 0) → P (next_of xs) (n + 2) (suc n) → P (next_of us') (length us') (n + 1)
@@ -154,16 +158,16 @@ module _ (m : Map) (first second : ℕ) (run : List Vertex) (named : ArcSide) (i
   divide_rings = record {
     one_more =
         moved (λ z k t. length (rings z k) ≡ length (rings f n) + 1)
-        (rings_more us vs run m.nodes m.polygons first second p.0 q.0 pu pt L ins.0 ins.1 p.1 q.1 p.2 q.2 share ∙ sym (add-one (length (rings f n))));
+        (rings_more us vs run m.nodes m.polygons first second p.0 q.0 pu pt L first_in second_in p.1 q.1 p.2 q.2 share ∙ sym (add-one (length (rings f n))));
     apart =
         moved (λ z k t. meets z k n t ≡ false)
-        (two_apart us vs run m.nodes m.polygons first second p.0 q.0 pu pt L ins.0 ins.1 p.1 q.1 p.2 q.2 share);
+        (two_apart us vs run m.nodes m.polygons first second p.0 q.0 pu pt L first_in second_in p.1 q.1 p.2 q.2 share);
     just_one = λ j l.
         moved (λ z k t. one_if (meets z k n j) + one_if (meets z k t j) ≡ one_if (meets f n first j))
-        (in_just_one us vs run m.nodes m.polygons first second p.0 q.0 pu pt L ins.0 ins.1 p.1 q.1 p.2 q.2 share j l);
+        (in_just_one us vs run m.nodes m.polygons first second p.0 q.0 pu pt L first_in second_in p.1 q.1 p.2 q.2 share j l);
     others_stay = λ j l h.
         moved (λ z k t. ring z k j ≡ ring f n j)
-        (other_rings us vs run m.nodes m.polygons first second p.0 q.0 pu pt L ins.0 ins.1 p.1 q.1 p.2 q.2 share j l h);
+        (other_rings us vs run m.nodes m.polygons first second p.0 q.0 pu pt L first_in second_in p.1 q.1 p.2 q.2 share j l h);
   }
 
   pub divide_sum : Rises 0 (state_of m) (divided (state_of m) first second run named)
@@ -175,7 +179,7 @@ module _ (m : Map) (first second : ℕ) (run : List Vertex) (named : ArcSide) (i
     divided_law : Lawful us' (vs ++ run) (n + 2) m.nodes (m.polygons + 1)
     divided_law =
         let (a, b) = and_parts (same_place (get_or run 0 no_vertex) (start_of us vs first)) (same_place (get_or run (length run - 1) no_vertex) (start_of us vs second)) led in
-        divide_lawful us vs run m.nodes m.polygons first second p.0 q.0 pu pt L ins.0 ins.1 p.1 q.1 p.2 q.2 share which fit a b
+        divide_lawful us vs run m.nodes m.polygons first second p.0 q.0 pu pt L first_in second_in p.1 q.1 p.2 q.2 share which fit a b
 
     module _ (s : Table Side) (v : Table Vertex) (room : (arc_room (state_of m) && vertex_room (state_of m) (length run)) ≡ true) (hs : Holds m.sides s us') (gv : Grown m.vertices v run) where
       used_are : s.used ≡ n + 2
@@ -200,7 +204,7 @@ module _ (m : Map) (first second : ℕ) (run : List Vertex) (named : ArcSide) (i
       pub divide_agrees : Ok (state_from m.hand s v m.nodes (m.polygons + 1)) ≡ divide_outcome (state_of m) first second run named
       divide_agrees =
           ap Ok divide_state
-          ∙ sym (cond-true (ltb first n && ltb second n) _ (Err NoSuchElement) (and_from (ltb first n) (ltb second n) (lt-ltb first n ins.0) (lt-ltb second n ins.1))
+          ∙ sym (cond-true (ltb first n && ltb second n) _ (Err NoSuchElement) (and_from (ltb first n) (ltb second n) (lt-ltb first n first_in) (lt-ltb second n second_in))
           ∙ (cond-true (meets f n first second) _ (Err SidesInTwoRings) share
           ∙ (cond-true (fit_run run) _ (Err UnfitRun) fit
           ∙ (cond-true (leads (state_of m) first second run) _ (Err RunEndsElsewhere) led

@@ -13,7 +13,7 @@ use Rattle.std.proofs.lemmas.Iterator.{YieldsList, YieldsList-from_slice}
 use Rattle.std.proofs.lemmas.Iterator.Consumers.{YieldsList-from_enumerate, YieldsList-at}
 use Rattle.rings.specs.Circles.{kept}
 use Rattle.topology.specs.declared.side.Side.{Side}
-use Rattle.topology.specs.Rows.{no_side, tells, low_of}
+use Rattle.topology.specs.Rows.{no_side, tells, low_of, polygon_of}
 use Rattle.topology.specs.Lifts.{other_under}
 use Rattle.topology.specs.Dissolves.{in_either, first_from}
 
@@ -97,6 +97,34 @@ at_zero i = omega arith
 
 pub starts_listed : (us : List Side) → map (λ (p : ℕ × Side). p.0) (filter is_start (enumerate_from 0 us)) ≡ kept (tells us) (length us)
 starts_listed us = kept_on (tells us) is_start 0 us (λ i l. ap (λ (k : ℕ). eqb (low_of us k) k) (at_zero i) ∙ ap (λ (k : ℕ). eqb (low_of us i) k) (sym (at_zero i))) ∙ ap (kept (tells us)) (at_zero (length us))
+
+-- a polygon and the lowest side of its ring
+abbrev pub told : ℕ × Side → ℕ × ℕ
+told p = (p.1.polygon, p.0)
+
+abbrev pub named : List Side → ℕ → ℕ × ℕ
+named us s = (polygon_of us s, s)
+
+polygons_listed : (us : List Side) (n : ℕ) (xs : List Side) → ((i : ℕ) → i < length xs → polygon_of us (n + i) ≡ polygon_of xs i) →
+    map told (filter is_start (enumerate_from n xs)) ≡ map (named us) (map (λ (p : ℕ × Side). p.0) (filter is_start (enumerate_from n xs)))
+polygons_listed us n [] h = refl
+polygons_listed us n (x ∷ xs) h =
+    let rest = filter is_start (enumerate_from (n + 1) xs) in
+    let next = polygons_listed us (n + 1) xs (λ i l. let e : n + 1 + i ≡ n + suc i = omega arith in ap (polygon_of us) e ∙ h (suc i) (omega arith)) in
+    let first : x.polygon ≡ polygon_of us n = sym (h 0 (omega arith)) ∙ ap (polygon_of us) (let e : n + 0 ≡ n = omega arith in e) in
+    elim (cases_Bool (is_start (n, x))) [
+      | inl t ↦
+          ap (λ (b : Bool). map told (cond b ((n, x) ∷ rest) rest)) t
+          ∙ (ap (λ (q : ℕ). (q, n) ∷ map told rest) first
+          ∙ (ap (λ (ys : List (ℕ × ℕ)). named us n ∷ ys) next
+          ∙ sym (ap (λ (b : Bool). map (named us) (map (λ (p : ℕ × Side). p.0) (cond b ((n, x) ∷ rest) rest))) t)))
+      | inr f ↦
+          ap (λ (b : Bool). map told (cond b ((n, x) ∷ rest) rest)) f
+          ∙ (next ∙ sym (ap (λ (b : Bool). map (named us) (map (λ (p : ℕ × Side). p.0) (cond b ((n, x) ∷ rest) rest))) f))
+    ]
+
+pub rings_listed : (us : List Side) → map told (filter is_start (enumerate_from 0 us)) ≡ map (named us) (kept (tells us) (length us))
+rings_listed us = polygons_listed us 0 us (λ i l. ap (polygon_of us) (at_zero i)) ∙ ap (map (named us)) (starts_listed us)
 
 pub other_listed : (us : List Side) (a p q : ℕ) →
     list_any (λ (x : ℕ × Side). not (eqb (x.0 / 2) a) && (eqb x.1.polygon p || eqb x.1.polygon q)) (enumerate_from 0 us) ≡ other_under us a p q (length us)

@@ -3,7 +3,6 @@ use Rattle.std.proofs.Common.{◌≡◌, ℕ, ◌+◌, ◌<◌, ◌≤◌, List,
 use borrow.Rule.Slice.PartMut.{put_mid}
 use Rattle.std.proofs.lemmas.List.{length-append, length-take, length-drop, take_at, drop-drop, append_assoc, same_lists, places, get_or-set_same, get_or-set_other, get_or_default, length-set, drop_at, drop_more}
 use Rattle.std.proofs.lemmas.List.Elements.{all_zip_more}
-use Rattle.std.proofs.Math.Seq.{take-length}
 use Rattle.std.specs.List.{AllZip}
 use Rattle.topology.specs.declared.table.Table.{Table}
 use Rattle.topology.specs.Tables.{Holds, Grown}
@@ -84,11 +83,6 @@ changing_more R old rows i d y l c r =
       ahead = drop_set rows i y ∙ cc;
       long = length-set rows i y ∙ c.long;
     }
-
-pub changing_done : {X : Type 0} (R : X → X → Type 0) (old rows : List X) (i : ℕ) → i ≡ length old → Changing R old rows i → AllZip R old rows
-changing_done R old rows i e d =
-    let c = subst (Changing R old rows) e d in
-    subst (AllZip R old) (ap (λ (n : ℕ). take n rows) (sym c.long) ∙ take-length rows) (subst (λ xs. AllZip R xs (take (length old) rows)) (take-length old) c.changed)
 
 -- what a function says of each row, it says of the rows
 pub changed_all : {X : Type 0} (F : X → X) (R : X → X → Type 0) → ((x y : X) → R x y → y ≡ F x) → (xs ys : List X) → AllZip R xs ys → ys ≡ map F xs

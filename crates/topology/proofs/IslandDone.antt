@@ -11,20 +11,39 @@ use Rattle.topology.specs.Tables.{Grown}
 use Rattle.topology.specs.Lawfuls.{Lawful}
 use Rattle.topology.specs.Islands.{closed_run, arc_room, vertex_room, unturned, turned}
 use Rattle.topology.proofs.InUse.{long}
-use Rattle.topology.proofs.Growth.{grown_used}
+use Rattle.topology.proofs.Growth.{grown_twice, grown_used}
 use Rattle.topology.proofs.Assembling.{lawful_at, lawful_of, room_told}
 use Rattle.topology.proofs.IslandLaw.{island_lawful, island_rings}
 
-module _ (m : Map) (s : Table Side) (v : Table Vertex) (p : ℕ) (run : List Vertex) (a b : Side)
+-- the rows of an island, as the code makes them
+unturned_row : (m : Map) → unturned m.sides.used m.nodes m.vertices.used m.polygons ≡ unturned (length (state_of m).sides) m.nodes (length (state_of m).vertices) m.polygons
+unturned_row m =
+    ap (λ (k : ℕ). unturned k m.nodes m.vertices.used m.polygons) (sym (long m.sides.rows.now m.sides.used m.sides.fits))
+    ∙ ap (λ (k : ℕ). unturned (length (state_of m).sides) m.nodes k m.polygons) (sym (long m.vertices.rows.now m.vertices.used m.vertices.fits))
+
+turned_row : (m : Map) (k p : ℕ) → turned m.sides.used m.nodes (m.vertices.used + k) p ≡ turned (length (state_of m).sides) m.nodes (length (state_of m).vertices + k) p
+turned_row m k p =
+    ap (λ (j : ℕ). turned j m.nodes (m.vertices.used + k) p) (sym (long m.sides.rows.now m.sides.used m.sides.fits))
+    ∙ ap (λ (j : ℕ). turned (length (state_of m).sides) m.nodes (j + k) p) (sym (long m.vertices.rows.now m.vertices.used m.vertices.fits))
+
+module _ (m : Map) (t s : Table Side) (v : Table Vertex) (p : ℕ) (run : List Vertex)
     (known : p < m.polygons) (fit : closed_run run ≡ true) (room : (arc_room (state_of m) && vertex_room (state_of m) (length run)) ≡ true)
-    (gs : Grown m.sides s (a ∷ b ∷ [])) (gv : Grown m.vertices v run)
-    (ea : a ≡ unturned (length (state_of m).sides) m.nodes (length (state_of m).vertices) m.polygons)
-    (eb : b ≡ turned (length (state_of m).sides) m.nodes (length (state_of m).vertices + (length run - 1)) p) where
+    (ga : Grown m.sides t (unturned m.sides.used m.nodes m.vertices.used m.polygons ∷ []))
+    (gb : Grown t s (turned m.sides.used m.nodes (m.vertices.used + (length run - 1)) p ∷ [])) (gv : Grown m.vertices v run) where
   abbrev us : List Side
   us = (state_of m).sides
 
   abbrev vs : List Vertex
   vs = (state_of m).vertices
+
+  abbrev a : Side
+  a = unturned m.sides.used m.nodes m.vertices.used m.polygons
+
+  abbrev b : Side
+  b = turned m.sides.used m.nodes (m.vertices.used + (length run - 1)) p
+
+  gs : Grown m.sides s (a ∷ b ∷ [])
+  gs = grown_twice m.sides t s a b ga gb
 
   abbrev a' : Side
   a' = unturned (length us) m.nodes (length vs) m.polygons
@@ -39,7 +58,7 @@ module _ (m : Map) (s : Table Side) (v : Table Vertex) (p : ℕ) (run : List Ver
   vertices_long = long m.vertices.rows.now m.vertices.used m.vertices.fits
 
   sides_are : take s.used s.rows.now ≡ us ++ a' ∷ b' ∷ []
-  sides_are = gs.rows ∙ ap (λ x. us ++ x ∷ b ∷ []) ea ∙ ap (λ x. us ++ a' ∷ x ∷ []) eb
+  sides_are = gs.rows ∙ ap (λ x. us ++ x ∷ b ∷ []) (unturned_row m) ∙ ap (λ x. us ++ a' ∷ x ∷ []) (turned_row m (length run - 1) p)
 
   used_are : s.used ≡ length us + 2
   used_are = grown_used m.sides s (a ∷ b ∷ []) gs ∙ omega (arith, sides_long)
@@ -59,14 +78,3 @@ module _ (m : Map) (s : Table Side) (v : Table Vertex) (p : ℕ) (run : List Ver
   island_more =
       ap (λ (k : ℕ). length (rings (next_of (take s.used s.rows.now)) k)) (long s.rows.now s.used s.fits ∙ used_are)
       ∙ (ap (λ (x : List Side). length (rings (next_of x) (length us + 2))) sides_are ∙ island_rings us vs run m.nodes m.polygons p (lawful_of m) known fit)
-
--- the rows of an island, as the code makes them
-pub unturned_row : (m : Map) → unturned m.sides.used m.nodes m.vertices.used m.polygons ≡ unturned (length (state_of m).sides) m.nodes (length (state_of m).vertices) m.polygons
-unturned_row m =
-    ap (λ (k : ℕ). unturned k m.nodes m.vertices.used m.polygons) (sym (long m.sides.rows.now m.sides.used m.sides.fits))
-    ∙ ap (λ (k : ℕ). unturned (length (state_of m).sides) m.nodes k m.polygons) (sym (long m.vertices.rows.now m.vertices.used m.vertices.fits))
-
-pub turned_row : (m : Map) (k p : ℕ) → turned m.sides.used m.nodes (m.vertices.used + k) p ≡ turned (length (state_of m).sides) m.nodes (length (state_of m).vertices + k) p
-turned_row m k p =
-    ap (λ (j : ℕ). turned j m.nodes (m.vertices.used + k) p) (sym (long m.sides.rows.now m.sides.used m.sides.fits))
-    ∙ ap (λ (j : ℕ). turned (length (state_of m).sides) m.nodes (j + k) p) (sym (long m.vertices.rows.now m.vertices.used m.vertices.fits))

@@ -39,14 +39,20 @@ left_told us us' c nodes polygons a left e d h =
     ∙ (ap (λ (r : Renumbering). cond (eqb r.polygon r.into) polygons (polygons - 1)) d
     ∙ (ap (λ (b : Bool). cond b polygons (polygons - 1)) (one_polygon (polygon_of us (a + a)) (polygon_of us (a + a + 1))) ∙ ap (λ (xs : List Side). polygons_left xs polygons a) e))
 
-module _ (m : Map) (s : Table Side) (c : Renumbering) (a left : ℕ) (numbers : c ≡ lift_numbers (state_of m).sides m.nodes m.polygons a)
+module _ (m : Map) (s : Table Side) (xs : List Side) (c : Renumbering) (a left : ℕ) (rows : xs ≡ (state_of m).sides) (given : c ≡ lift_numbers xs m.nodes m.polygons a)
     (here : a < arc_count (state_of m)) (alone : closed_alone (state_of m).sides a ≡ true) (ring : ring_left (state_of m).sides a ≡ true)
-    (shrunk : Holds m.sides s (map (renumbered c) (rows_without (state_of m).sides a))) (lefts : left ≡ polygons_left (state_of m).sides m.polygons a) where
+    (shrunk : Holds m.sides s (map (renumbered c) (rows_without (state_of m).sides a))) (told : left ≡ cond (eqb c.polygon c.into) m.polygons (m.polygons - 1)) where
   abbrev us : List Side
   us = (state_of m).sides
 
   abbrev vs : List Vertex
   vs = (state_of m).vertices
+
+  numbers : c ≡ lift_numbers us m.nodes m.polygons a
+  numbers = given ∙ ap (λ (ys : List Side). lift_numbers ys m.nodes m.polygons a) rows
+
+  lefts : left ≡ polygons_left us m.polygons a
+  lefts = left_told us us c m.nodes m.polygons a left refl numbers told
 
   abbrev z : ℕ
   z = length us / 2 - 1

@@ -1,7 +1,7 @@
 -- Counting the sides that are the lowest of their rings.
-use Rattle.std.proofs.Common.{◌≡◌, ℕ, ◌<◌, ◌≤◌, Bool, cond, ltb, List, [], ◌∷◌, ◌++◌, length, get_or, Some, None, slice_get, inl, inr, zero, suc, Ok, Err, Result, sym, ap, ◌∙◌, arith}
-use Rattle.std.proofs.lemmas.Bool.{cases_lt, cases_Bool, lt-ltb, le-ltb, cond-true, cond-false}
-use Rattle.std.proofs.lemmas.List.{length-append, get_or_append_left, get_or_at}
+use Rattle.std.specs.Option.{ok_or, option_map}
+use Rattle.std.proofs.Common.{◌≡◌, ℕ, Option, refl, ◌<◌, ◌≤◌, cond, ltb, List, length, get_or, Some, None, slice_get, inl, inr, Ok, Err, Result, sym, ap, ◌∙◌, arith}
+use Rattle.std.proofs.lemmas.Bool.{cases_lt, lt-ltb, le-ltb, cond-true, cond-false}
 use Rattle.std.proofs.lemmas.Option.{slice_get_within, get_or_from_slice_get, slice_get-get_or}
 use Rattle.refusal.specs.declared.Refusal.{Refusal}
 use Rattle.refusal.specs.declared.Refusal.TheVariants.{NoSuchElement}
@@ -10,29 +10,6 @@ use Rattle.rings.proofs.Lows.{starts_kept, length_names}
 use Rattle.topology.specs.declared.side.Side.{Side}
 use Rattle.topology.specs.Rows.{next_of, polygon_of, low_of, tells}
 use Rattle.topology.specs.MapLaw.{InRings, LowAlong, LowBelow, LowNames}
-
--- what is kept is below
-kept_low : (P : ℕ → Bool) (n k : ℕ) → k < length (kept P n) → get_or (kept P n) k 0 < n
-kept_low P zero k l = absurd (omega arith)
-kept_low P (suc n) k l =
-    elim (cases_lt k (length (kept P n))) [
-      | inl h ↦ let i = kept_low P n k h in let e = get_or_append_left (kept P n) (cond (P n) (n ∷ []) []) 0 k h in omega arith
-      | inr g ↦
-          elim (cases_Bool (P n)) [
-            | inl t ↦
-                let e : kept P (suc n) ≡ kept P n ++ n ∷ [] = ap (λ (b : Bool). kept P n ++ cond b (n ∷ []) []) t in
-                let j : k ≡ length (kept P n) = omega (arith, ap length e, length-append (kept P n) (n ∷ [])) in
-                let i : get_or (kept P (suc n)) k 0 ≡ n = ap (λ (xs : List ℕ). get_or xs k 0) e ∙ get_or_at (kept P n) n [] 0 k (sym j) in
-                omega (arith, i)
-            | inr f ↦ absurd (let e = ap (λ (b : Bool). length (kept P n ++ cond b (n ∷ []) [])) f in omega (arith, e, length-append (kept P n) []))
-          ]
-    ]
-
-pub kept_below : (P : ℕ → Bool) (n k s : ℕ) → slice_get (kept P n) k ≡ Some s → s < n
-kept_below P n k s h =
-    let i = kept_low P n k (slice_get_within (kept P n) k s h) in
-    let e = get_or_from_slice_get (kept P n) k s 0 h in
-    omega arith
 
 past_none : (xs : List ℕ) (k : ℕ) → slice_get xs k ≡ None → length xs ≤ k
 past_none xs k h =
@@ -49,7 +26,7 @@ module _ (us : List Side) (n : ℕ) (r : InRings us n) (along : LowAlong us n) (
   count_kept = ap length (sym start_list) ∙ length_names (λ x. x) (rings (next_of us) n)
 
   -- the k-th ring, by the k-th of those that are kept
-  pub ring_told : (k s : ℕ) → slice_get (kept (tells us) n) k ≡ Some s →
+  ring_told : (k s : ℕ) → slice_get (kept (tells us) n) k ≡ Some s →
       ◌≡◌ {A = Result (ℕ × ℕ) Refusal} (Ok (polygon_of us s, s))
       (cond (ltb k (length (rings (next_of us) n))) (Ok (polygon_of us (get_or (starts (rings (next_of us) n)) k 0), get_or (starts (rings (next_of us) n)) k 0)) (Err NoSuchElement))
   ring_told k s h =
@@ -57,7 +34,18 @@ module _ (us : List Side) (n : ℕ) (r : InRings us n) (along : LowAlong us n) (
       let l : k < length (rings (next_of us) n) = omega (arith, count_kept, slice_get_within (kept (tells us) n) k s h) in
       ap (λ (v : ℕ). Ok (polygon_of us v, v)) (sym e) ∙ sym (cond-true (ltb k (length (rings (next_of us) n))) _ (Err NoSuchElement) (lt-ltb k _ l))
 
-  pub ring_none : (k : ℕ) → slice_get (kept (tells us) n) k ≡ None →
+  ring_none : (k : ℕ) → slice_get (kept (tells us) n) k ≡ None →
       ◌≡◌ {A = Result (ℕ × ℕ) Refusal} (Err NoSuchElement)
       (cond (ltb k (length (rings (next_of us) n))) (Ok (polygon_of us (get_or (starts (rings (next_of us) n)) k 0), get_or (starts (rings (next_of us) n)) k 0)) (Err NoSuchElement))
   ring_none k h = sym (cond-false (ltb k (length (rings (next_of us) n))) _ (Err NoSuchElement) (le-ltb k _ (omega (arith, count_kept, past_none (kept (tells us) n) k h))))
+
+  told_or_none : (k : ℕ) (o : Option ℕ) → slice_get (kept (tells us) n) k ≡ o →
+      ◌≡◌ {A = Result (ℕ × ℕ) Refusal} (ok_or (option_map (λ (s : ℕ). (polygon_of us s, s)) o) NoSuchElement)
+      (cond (ltb k (length (rings (next_of us) n))) (Ok (polygon_of us (get_or (starts (rings (next_of us) n)) k 0), get_or (starts (rings (next_of us) n)) k 0)) (Err NoSuchElement))
+  told_or_none k None h = ring_none k h
+  told_or_none k (Some s) h = ring_told k s h
+
+  pub ring_found : (k : ℕ) →
+      ◌≡◌ {A = Result (ℕ × ℕ) Refusal} (ok_or (option_map (λ (s : ℕ). (polygon_of us s, s)) (slice_get (kept (tells us) n) k)) NoSuchElement)
+      (cond (ltb k (length (rings (next_of us) n))) (Ok (polygon_of us (get_or (starts (rings (next_of us) n)) k 0), get_or (starts (rings (next_of us) n)) k 0)) (Err NoSuchElement))
+  ring_found k = told_or_none k _ refl

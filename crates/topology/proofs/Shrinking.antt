@@ -1,7 +1,10 @@
 -- Rows that go from a table: the last two take their place.
 use Rattle.std.proofs.Common.{◌≡◌, ℕ, ◌+◌, ◌-◌, ◌%◌, ◌<◌, ◌≤◌, List, ◌++◌, map, length, get_or, take, drop, set, sym, ap, ◌∙◌, inl, inr, arith}
+use Rattle.std.specs.List.{copy_within}
+use Rattle.std.proofs.Math.Seq.{paste}
+use Rattle.std.proofs.lemmas.List.Edits.{paste_more, paste_none}
 use Rattle.std.proofs.lemmas.Bool.{cases_eq, cases_lt}
-use Rattle.std.proofs.lemmas.List.{length-take-le, length-set, length-map, same_lists, get_or-set_same, get_or-set_other, get_or-take, drop-set-lt, set-get_or}
+use Rattle.std.proofs.lemmas.List.{length-take-le, length-set, length-map, same_lists, get_or-set_same, get_or-set_other, get_or-take, drop-set-lt, set-get_or, length-drop, get_or-drop}
 use Rattle.topology.specs.declared.side.Side.{Side}
 use Rattle.topology.specs.Rows.{no_side}
 use Rattle.topology.specs.Lifts.{rows_without}
@@ -86,15 +89,39 @@ module _ (full : List Side) (n a : ℕ) (here : a + a + 1 < n) (even : n % 2 ≡
             ap (drop (n - 2)) (ap (λ (ys : List Side). set ys (a + a + 1) y) s ∙ (ap (λ (k : ℕ). set full k y) j ∙ set-get_or full (n - 1) no_side))
       ]
 
-  module _ (F : Side → Side) (after : List Side) (e : after ≡ map F (take (n - 2) xs)) where
+  -- the last two rows copied over those of the arc
+  copied : copy_within full (n - 2) (n - 2 + 2) (a + a) ≡ xs
+  copied =
+      let s = drop (n - 2) full in
+      let l : length s ≡ length full - (n - 2) = length-drop (n - 2) full in
+      let two : n - 2 + 2 - (n - 2) ≡ 2 = omega arith in
+      let first : get_or s 0 no_side ≡ x = get_or-drop (n - 2) full 0 no_side ∙ ap (λ (k : ℕ). get_or full k no_side) (let e : n - 2 + 0 ≡ n - 2 = omega arith in e) in
+      let second : get_or s 1 no_side ≡ y = get_or-drop (n - 2) full 1 no_side ∙ ap (λ (k : ℕ). get_or full k no_side) (let e : n - 2 + 1 ≡ n - 1 = omega arith in e) in
+      let one : paste full (a + a) s 1 ≡ set full (a + a) x =
+      sym (paste_more full (a + a) s 0 no_side (omega arith) (omega arith))
+      ∙ (ap (λ (ys : List Side). set ys (a + a + 0) (get_or s 0 no_side)) (sym (paste_none full (a + a) s))
+      ∙ (ap (λ (k : ℕ). set full k (get_or s 0 no_side)) (let e : a + a + 0 ≡ a + a = omega arith in e) ∙ ap (set full (a + a)) first)) in
+      ap (paste full (a + a) s) two
+      ∙ (sym (paste_more full (a + a) s 1 no_side (omega arith) (omega arith))
+      ∙ (ap (λ (ys : List Side). set ys (a + a + 1) (get_or s 1 no_side)) one ∙ ap (set (set full (a + a) x) (a + a + 1)) second))
+
+  module _ (F : Side → Side) (moved after : List Side) (m : moved ≡ copy_within full (n - 2) (n - 2 + 2) (a + a)) (e : after ≡ map F (take (n - 2) moved)) where
+    moved_are : moved ≡ xs
+    moved_are = m ∙ copied
+
+    moved_long : length moved ≡ length full
+    moved_long = ap length moved_are ∙ xs_long
+
     after_long : length after ≡ n - 2
-    after_long = ap length e ∙ (length-map (take (n - 2) xs) F ∙ length-take-le (n - 2) xs (omega (arith, xs_long)))
+    after_long = ap length e ∙ (length-map (take (n - 2) moved) F ∙ length-take-le (n - 2) moved (omega (arith, moved_long)))
 
-    pub without_rows : take (n - 2) (after ++ drop (n - 2) xs) ≡ map F (rows_without (take n full) a)
-    without_rows = front_new after xs (n - 2) after_long (omega (arith, xs_long)) ∙ (e ∙ ap (map F) same_rows)
+    pub without_rows : take (n - 2) (after ++ drop (n - 2) moved) ≡ map F (rows_without (take n full) a)
+    without_rows =
+        front_new after moved (n - 2) after_long (omega (arith, moved_long))
+        ∙ (e ∙ ap (map F) (ap (take (n - 2)) moved_are ∙ same_rows))
 
-    pub without_rest : drop (n - 2) (after ++ drop (n - 2) xs) ≡ drop (n - 2) full
-    without_rest = front_rest after xs (n - 2) after_long (omega (arith, xs_long)) ∙ same_rest
+    pub without_rest : drop (n - 2) (after ++ drop (n - 2) moved) ≡ drop (n - 2) full
+    without_rest = front_rest after moved (n - 2) after_long (omega (arith, moved_long)) ∙ (ap (drop (n - 2)) moved_are ∙ same_rest)
 
-    pub without_long : length (after ++ drop (n - 2) xs) ≡ length full
-    without_long = front_long after xs (n - 2) after_long (omega (arith, xs_long)) ∙ xs_long
+    pub without_long : length (after ++ drop (n - 2) moved) ≡ length full
+    without_long = front_long after moved (n - 2) after_long (omega (arith, moved_long)) ∙ moved_long

@@ -8,7 +8,7 @@ use Rattle.std.proofs.lemmas.List.FromFn.{fill_by_all}
 use Rattle.rings.specs.Circles.{walk, ahead, rings}
 use Rattle.rings.specs.Law.{Ringed}
 use Rattle.rings.proofs.Walks.{ahead_here, ahead_back, ahead_more, walk_more, ring_short}
-use Rattle.rings.proofs.Ringwise.{walk_back, walk_on}
+use Rattle.rings.proofs.Ringwise.{walk_on}
 use Rattle.rings.proofs.Closed.{within}
 use Rattle.rings.proofs.Ringed.{ringed_circles}
 use Rattle.topology.specs.declared.side.Side.{Side}
@@ -20,9 +20,6 @@ use Rattle.topology.specs.Divisions.{lowest_of, told_side, told_at}
 
 pub min_lower : (x y : ℕ) → min x y ≡ lower x y
 min_lower x y = grind (arith, nat_tests)
-
-pub lowest_back : (f : ℕ → ℕ) (fuel s p low : ℕ) → f p ≡ s → lowest_of low (walk f fuel s p) ≡ low
-lowest_back f fuel s p low e = ap (lowest_of low) (walk_back f fuel s p e)
 
 pub lowest_on : (f : ℕ → ℕ) (fuel m s p low : ℕ) → fuel ≡ suc m → (f p ≡ s → ⊥) → lowest_of low (walk f fuel s p) ≡ lowest_of (lower low (f p)) (walk f m s (f p))
 lowest_on f fuel m s p low e ne = ap (lowest_of low) (walk_on f fuel m s p e ne)
@@ -76,18 +73,6 @@ module _ (rows : List Side) (f : ℕ → ℕ) (s p polygon low : ℕ) (l : p < l
             get_or-set_other rows p k (tell (get_or rows p no_side)) no_side n
             ∙ ap (λ (b : Bool). cond b (tell (get_or rows k no_side)) (get_or rows k no_side)) (sym (ahead_back f fuel s p k h (λ j. n (sym j)) e))
       ]
-
-pub telling_none : (old : List Side) (s polygon low : ℕ) → s < length old → Telling old old s s polygon low 0
-telling_none old s polygon low l =
-    let y : length old - 0 ≡ length old = omega arith in
-    let f = next_of old in
-    record {
-      inside = l;
-      steps = omega (arith, ap (λ (m : ℕ). length (walk f m s s)) y);
-      size = refl;
-      links = λ k lk. refl;
-      rest = λ k lk. ap (λ (m : ℕ). cond (ahead f m s s k) (told_side polygon low (get_or old k no_side)) (get_or old k no_side)) y;
-    }
 
 module _ (old rows : List Side) (s p polygon low i : ℕ) (li : i < length old) (c : Telling old rows s p polygon low i) where
   abbrev g : ℕ → ℕ

@@ -44,7 +44,7 @@ fn merging_where(sides: &[Side], arc: usize) -> Merging
     let turned = sides[arc + arc + 1];
     let side = (arc + arc) as u32;
     Merging {
-        side,
+        side: side as u16,
         past_unturned: onward(unturned.next, turned.next, side + 1),
         past_turned: onward(turned.next, unturned.next, side),
         low_unturned: unturned.low,

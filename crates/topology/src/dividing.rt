@@ -28,7 +28,7 @@ fn lowest_of_ring(sides: &[Side], start: u32) -> u32
 }
 
 // Tells each side of the ring of a side its polygon and the lowest side of the ring.
-// Stays: the range bounds a walk along the links, and each write is by the number of a side. A `loop` is no plainer.
+// Stays: the range bounds a walk along the links, and each write is by the number of a side. A `loop` needs the sides left of the ring as its measure, and is no plainer.
 fn tell_ring(sides: &mut [Side], start: u32, polygon: u32, low: u32)
     requires ringed { InRings sides.old (length sides.old) }
     requires here { start < length sides.old }
@@ -47,9 +47,10 @@ fn tell_ring(sides: &mut [Side], start: u32, polygon: u32, low: u32)
             return;
         }
     }
-    unreachable()
+    unreachable!()
 }
 
+// Stays: that the rings and turns of the rows are circles is a condition here, of `part` and of the walks. It is the law of a map, which a table alone does not keep, and a type for it would be owed at each write.
 impl<'a> Table<'a, Side> {
     // Tells each side of the ring of a side its polygon and the lowest side of the ring.
     pub(crate) fn tell_ring(&mut self, start: u32, polygon: u32)

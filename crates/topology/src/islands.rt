@@ -24,6 +24,7 @@ impl<'a> Map<'a> {
     }
 
     // Adds an island of a run that makes a closed arc.
+    // Stays: that there is room, which the edit has just tested, is a condition here and of the two other functions that add an arc. A type for it would hold for one state of one map.
     fn add_island(&mut self, polygon: usize, run: &[Vertex])
         requires known { polygon < self.old.polygons }
         requires closed { closed_run run.now ≡ true }

@@ -41,8 +41,8 @@ pub(crate) fn numbers_where(
     let p = unturned.polygon;
     let q = sides[arc + arc + 1].polygon;
     Renumbering {
-        side: (arc + arc) as u32,
-        last_side: (n - 2) as u32,
+        side: (arc + arc) as u16,
+        last_side: (n - 2) as u16,
         node: unturned.node,
         last_node: (nodes - 1) as u32,
         polygon: p.max(q),
@@ -72,22 +72,17 @@ impl<'a> Table<'a, Side> {
     pub(crate) fn remove(&mut self, arc: usize, numbers: Renumbering)
         requires here { arc + arc + 1 < self.old.used }
         requires even { self.old.used % 2 ≡ 0 }
-        requires side_few { numbers.side < 32768 }
-        requires last_few { numbers.last_side < 32768 }
         ensures { Holds self.old self.new (map (renumbered numbers) (rows_without (take self.old.used self.old.rows.now) arc)) }
     {
-        let unturned = self.rows[self.used - 2];
-        let turned = self.rows[self.used - 1];
-        self.rows[arc + arc] = unturned;
-        self.rows[arc + arc + 1] = turned;
         self.used -= 2;
+        self.rows.copy_within(self.used..self.used + 2, arc + arc);
         renumber(&mut self.rows[..self.used], numbers);
     }
 }
 
 impl<'a> Map<'a> {
-    // Stays: that there is such an arc is a condition here and in the other private functions on arcs. A type of the numbers of arcs would hold for one state of one map, and each edit would make it anew.
     // Whether an arc is closed at a node of its own: by the law, exactly if each of its sides is its own next.
+    // Stays: that there is such an arc is a condition here and in the other private functions on arcs. A type of the numbers of arcs would hold for one state of one map, and each edit would make it anew.
     pub(crate) fn is_closed_alone(&self, arc: usize) -> bool
         requires { arc < arc_count (state_of self.now) }
         ensures closed { result ≡ closed_alone (state_of self.now).sides arc }

@@ -1,4 +1,4 @@
-ghost use Rattle.std.specs.Prelude.{◌≡◌, ℕ, ◌+◌, ◌<◌, map};
+ghost use Rattle.std.specs.Prelude.{◌≡◌, ℕ, ◌+◌, map};
 ghost use Rattle.topology.specs.Merged.{led_on, merged};
 
 use super::rows::change_each;
@@ -7,8 +7,8 @@ use super::side::Side;
 /// How the two rings of an arc's sides become one, where the arc leaves them.
 #[derive(Clone, Copy)]
 pub struct Merging {
-    /// the unturned side of the arc
-    pub side: u32,
+    /// the unturned side of the arc: a map has at most 32768 sides
+    pub side: u16,
     /// where the ring leads on from the side before the unturned one, and from the side before the turned one
     pub past_unturned: u32,
     pub past_turned: u32,
@@ -23,12 +23,12 @@ pub struct Merging {
 impl Merging {
     // Where the ring leads on, past the arc.
     fn past(self, next: u32) -> u32
-        requires { self.side < 32768 }
         ensures { result ≡ led_on self next }
     {
-        if next == self.side {
+        let side = u32::from(self.side);
+        if next == side {
             self.past_unturned
-        } else if next == self.side + 1 {
+        } else if next == side + 1 {
             self.past_turned
         } else {
             next
@@ -37,7 +37,6 @@ impl Merging {
 
     // A row of another arc, once the two rings are one.
     fn row(self, side: Side) -> Side
-        requires { self.side < 32768 }
         ensures { result ≡ merged self side }
     {
         let next = self.past(side.next);
@@ -56,7 +55,6 @@ impl Merging {
 
 // The rows, once the two rings are one.
 pub(crate) fn merge(rows: &mut [Side], rings: Merging)
-    requires { rings.side < 32768 }
     ensures { rows.new ≡ map (merged rings) rows.old }
 {
     change_each(rows, |side| rings.row(side));

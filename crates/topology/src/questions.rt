@@ -7,7 +7,7 @@ use super::hand::Hand;
 use super::map::Map;
 use super::side::Side;
 use super::vertex::Vertex;
-use super::walks::{count_starts, find_start};
+use super::walks::{count_starts, find_ring};
 use refusal::Refusal;
 
 impl<'a> Map<'a> {
@@ -54,16 +54,14 @@ impl<'a> Map<'a> {
     pub fn polygon(&self, side: usize) -> Result<usize, Refusal>
         ensures { result ≡ about_side polygon_of (state_of self.now) side }
     {
-        let row = self.side(side)?;
-        Ok(row.polygon as usize)
+        self.side(side).map(|row| row.polygon as usize)
     }
 
     /// The next side of a side in its ring. 20 when there is no such side.
     pub fn next(&self, side: usize) -> Result<usize, Refusal>
         ensures { result ≡ about_side next_of (state_of self.now) side }
     {
-        let row = self.side(side)?;
-        Ok(row.next as usize)
+        self.side(side).map(|row| row.next as usize)
     }
 
     /// The lowest side of a side's ring: the ring set out from it meets the side, and no side before it. 20 when there is no such side.
@@ -71,8 +69,7 @@ impl<'a> Map<'a> {
         ensures value { result ≡ about_side low_of (state_of self.now) side }
         ensures lowest { IfOk result (λ low. LowestOfRing (state_of self.now) side low) }
     {
-        let row = self.side(side)?;
-        Ok(row.low as usize)
+        self.side(side).map(|row| row.low as usize)
     }
 
     /// The node where a side begins. 20 when there is no such side. The turn about that node, set out from this side, meets every side that begins there.
@@ -80,8 +77,7 @@ impl<'a> Map<'a> {
         ensures value { result ≡ about_side node_of (state_of self.now) side }
         ensures turn { OnOk result (TurnMeets (state_of self.now) side) }
     {
-        let row = self.side(side)?;
-        Ok(row.node as usize)
+        self.side(side).map(|row| row.node as usize)
     }
 
     // The rows of an arc's first and last vertex, where there is such an arc.
@@ -130,11 +126,6 @@ impl<'a> Map<'a> {
     pub fn ring(&self, k: usize) -> Result<(usize, usize), Refusal>
         ensures { result ≡ ring_at (state_of self.now) k }
     {
-        let sides = self.sides.in_use();
-        // Stays: after `ok_or` and `?` the proof no longer knows that the side is in use.
-        let Some(s) = find_start(sides, k) else {
-            return Err(Refusal::NoSuchElement);
-        };
-        Ok((sides[s].polygon as usize, s))
+        find_ring(self.sides.in_use(), k).ok_or(Refusal::NoSuchElement)
     }
 }

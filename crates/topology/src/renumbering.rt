@@ -8,9 +8,9 @@ use super::side::Side;
 /// The numbers that change where an arc goes, and what goes with it: the highest number of each kind fills the gap.
 #[derive(Clone, Copy)]
 pub struct Renumbering {
-    /// the unturned side of the arc that goes, and that of the last arc, which takes its number
-    pub side: u32,
-    pub last_side: u32,
+    /// the unturned side of the arc that goes, and that of the last arc, which takes its number: a map has at most 32768 sides
+    pub side: u16,
+    pub last_side: u16,
     /// the node that goes, and the last node, which takes its number
     pub node: u32,
     pub last_node: u32,
@@ -33,14 +33,14 @@ fn fill(gap: u32, highest: u32, k: u32) -> u32
 impl Renumbering {
     // A row under the changed numbers.
     fn row(self, side: Side) -> Side
-        requires side_few { self.side < 32768 }
-        requires last_few { self.last_side < 32768 }
         ensures { result ≡ renumbered self side }
     {
+        let unturned = u32::from(self.side);
+        let last = u32::from(self.last_side);
         let low = if side.low == self.low_unturned {
-            self.low_unturned.min(self.side)
+            self.low_unturned.min(unturned)
         } else if side.low == self.low_turned {
-            self.low_turned.min(self.side + 1)
+            self.low_turned.min(unturned + 1)
         } else {
             side.low
         };
@@ -51,11 +51,7 @@ impl Renumbering {
                 self.last_polygon,
                 fill(self.into, self.polygon, side.polygon),
             ),
-            next: fill(
-                self.side,
-                self.last_side,
-                fill(self.side + 1, self.last_side + 1, side.next),
-            ),
+            next: fill(unturned, last, fill(unturned + 1, last + 1, side.next)),
             low,
             ..side
         }
@@ -64,8 +60,6 @@ impl Renumbering {
 
 // The rows under the changed numbers.
 pub(crate) fn renumber(rows: &mut [Side], numbers: Renumbering)
-    requires side_few { numbers.side < 32768 }
-    requires last_few { numbers.last_side < 32768 }
     ensures { rows.new ≡ map (renumbered numbers) rows.old }
 {
     change_each(rows, |side| numbers.row(side));

@@ -6,7 +6,8 @@ use super::table::Table;
 impl<'a, T> Table<'a, T> {
     // The rows in use.
     pub(crate) fn in_use(&self) -> &[T]
-        ensures { result.now ≡ take self.now.used self.now.rows.now }
+        ensures rows { result.now ≡ take self.now.used self.now.rows.now }
+        ensures long { length result.now ≡ self.now.used }
     {
         &self.rows[..self.used]
     }

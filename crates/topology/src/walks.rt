@@ -1,7 +1,7 @@
-ghost use Rattle.std.specs.Prelude.{◌≡◌, ◌%◌, ◌<◌, length};
+ghost use Rattle.std.specs.Prelude.{◌≡◌, ◌%◌, ◌<◌, length, option_map};
 ghost use Rattle.std.specs.List.{slice_get};
 ghost use Rattle.rings.specs.Circles.{kept};
-ghost use Rattle.topology.specs.Rows.{next_of, tells};
+ghost use Rattle.topology.specs.Rows.{next_of, polygon_of, tells};
 ghost use Rattle.topology.specs.MapLaw.{InTurns};
 
 use super::side::Side;
@@ -18,15 +18,15 @@ pub(crate) fn count_starts(sides: &[Side]) -> usize
         .count()
 }
 
-// The k-th of the sides that are the lowest of their ring.
-pub(crate) fn find_start(sides: &[Side], k: usize) -> Option<usize>
-    ensures { result ≡ slice_get (kept (tells sides.now) (length sides.now)) k }
+// The polygon and the lowest side of the k-th ring, where there are so many.
+pub(crate) fn find_ring(sides: &[Side], k: usize) -> Option<(usize, usize)>
+    ensures { result ≡ option_map (λ s. (polygon_of sides.now s, s)) (slice_get (kept (tells sides.now) (length sides.now)) k) }
 {
     sides
         .iter()
         .enumerate()
         .filter(|(s, side)| side.low as usize == *s)
-        .map(|(s, _)| s)
+        .map(|(s, side)| (side.polygon as usize, s))
         .nth(k)
 }
 
@@ -48,5 +48,5 @@ pub(crate) fn before(sides: &[Side], side: u32) -> u32
         }
         at = q;
     }
-    unreachable()
+    unreachable!()
 }

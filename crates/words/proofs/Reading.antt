@@ -1,16 +1,16 @@
 -- What std's `parse` answers, in the words of the specs.
-use Rattle.std.proofs.Common.{MatchOption, ◌≡◌, ℕ, ◌^◌, ◌<◌, true, ◌&&◌, ltb, List, [], ◌∷◌, length, is_some, Some, None, Ok, Err, IsUtf8, Option, Result, sym, refl, ap, ◌∙◌, subst, append-nil, arith}
+use Rattle.std.proofs.Common.{◌≡◌, ℕ, ◌^◌, ◌<◌, true, ◌&&◌, ltb, List, [], ◌∷◌, length, Some, None, Ok, Err, IsUtf8, Option, Result, sym, refl, ap, ◌∙◌, append-nil, arith}
 use lib.Utf8.{scalar, encode, encodes, scalars}
 use lib.Ieee.{Float, binary64}
 use Rattle.std.specs.Result.{result_ok}
-use Rattle.std.specs.Float.Parse.{ParsesFloat, is_float_text}
-use Rattle.std.specs.Str.Parse.{IsNumeral, without_leading_plus, digits_value, ParsesUnsigned, ParsesChar}
+use Rattle.std.specs.Float.Parse.{ParsesFloat, IsParseFloatResult, without_sign}
+use Rattle.std.specs.Str.Parse.{IsNumeral, without_leading_plus, digits_value, ParsesUnsigned, ParsesChar, starts_with_minus}
 use Rattle.std.specs.Str.{all_ascii_digits, chars}
 use Rattle.std.proofs.lemmas.Str.Parse.{IsNumeralModel, numerals_by_value, tells_all_ascii_digits}
 use Rattle.std.proofs.lemmas.Bool.{and_parts, and_from, ltb-true, lt-ltb, cond_both}
 use Rattle.std.proofs.lemmas.Str.{chars_from_encodes, encodes-chars, scalars-chars}
-use Rattle.decimals.specs.Plain.{plain_of}
-use Rattle.decimals.proofs.FloatTexts.{plain_float}
+use Rattle.decimals.specs.Plain.{plain, nearest_double}
+use Rattle.decimals.proofs.FloatTexts.{parsed, plain_parsed}
 use Rattle.words.specs.Words.{numeral, whole_of, only, character_of, Said, Parsed, Decimal}
 
 told : IsNumeralModel (λ ds. all_ascii_digits ds ≡ true) (digits_value 10)
@@ -45,22 +45,14 @@ character_read bs (Err e) u h = none_only bs (chars bs) (encodes-chars bs u) (sc
 ok_same : {E : Type 0} (x y : Float) → (let r : Result Float E = Ok x in r ≡ Ok y) → x ≡ y
 ok_same x y e = grind arith
 
-pub decimal_read : {E : Type 0} (bs : List ℕ) (r : Result Float E) → ParsesFloat binary64 64 bs r → Parsed bs (result_ok r)
+decimal_read : {E : Type 0} (bs : List ℕ) (r : Result Float E) → ParsesFloat binary64 64 bs r → Parsed bs (result_ok r)
 decimal_read bs (Ok x) h = (sym h.0, λ e. let p = numeral_of (without_leading_plus bs) e in ok_same x _ (h.1 p.0 p.1))
 decimal_read bs (Err e) h = sym h.0
 
--- exactly the text of a decimal number says one
-pub decimal_text : (bs : List ℕ) (r : Option Float) → Decimal bs r → is_some r ≡ is_float_text bs
-decimal_text bs r = at (plain_of bs) refl r
+-- of a plain number that is the double nearest to it
+pub decimal_said : {E : Type 0} (bs : List ℕ) (r : Result Float E) → ParsesFloat binary64 64 bs r → IsParseFloatResult binary64 bs r → Decimal bs (result_ok r)
+decimal_said bs r h i = at (plain (without_sign bs)) refl
   where
-    at : (o : Option Float) → plain_of bs ≡ o → (q : Option Float) → Said bs o q → is_some q ≡ is_float_text bs
-    at (Some y) e q h = rw h (sym (plain_float bs y e))
-    at None e None h = sym h
-    at None e (Some x) h = sym h.0
-
-plain_said : (bs : List ℕ) (x : Float) → Some x ≡ plain_of bs → Decimal bs (Some x)
-plain_said bs x e = subst (λ (o : Option Float). Said bs o (Some x)) e refl
-
-pub said_or_parsed : (bs : List ℕ) (o r : Option Float) (N : Type 0) → o ≡ plain_of bs → (N → Parsed bs r) → MatchOption o N (λ x. r ≡ Some x) → Decimal bs r
-said_or_parsed bs (Some x) r N e f h = rw h (plain_said bs x e)
-said_or_parsed bs None r N e f h = subst (λ (o : Option Float). Said bs o r) e (f h)
+    at : (o : Option (ℕ × ℕ)) → plain (without_sign bs) ≡ o → Said bs (nearest_double (starts_with_minus bs) o) (result_ok r)
+    at None e = decimal_read bs r h
+    at (Some (n, p)) e = parsed bs r i ∙ plain_parsed bs n p e

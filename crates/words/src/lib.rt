@@ -2,10 +2,9 @@
 #![tactic(auto)]
 
 ghost use Rattle.std.specs.Prelude.{◌≡◌, is_some};
-ghost use Rattle.std.specs.Float.Parse.{is_float_text};
+ghost use Rattle.std.specs.Float.{binary64};
+ghost use Rattle.std.specs.Float.Parse.{parse_float, is_float_text};
 ghost use Rattle.words.specs.Words.{whole_of, character_of, Parsed, Decimal};
-
-use decimals::plain_decimal;
 
 /// The whole number that a word writes in decimal digits, where 64 bits hold it. A plus may stand first.
 pub fn whole(word: &str) -> Option<u64>
@@ -28,10 +27,11 @@ pub fn character(word: &str) -> Option<char>
     word.parse::<char>().ok()
 }
 
-/// The double that a word writes: of a plain decimal number the nearest one, of any other text what Rust's `parse` reads.
+/// The double that a word writes: what Rust's `parse` reads, which is the number rounded once, and so of a plain decimal number the nearest double.
 pub fn decimal(word: &str) -> Option<f64>
+    ensures rounded { result ≡ parse_float binary64 word.now }
     ensures said { Decimal word.now result }
     ensures reads { is_some result ≡ is_float_text word.now }
 {
-    plain_decimal(word).or_else(|| word.parse().ok())
+    word.parse::<f64>().ok()
 }

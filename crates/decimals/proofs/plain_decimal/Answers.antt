@@ -1,8 +1,6 @@
-use Rattle.std.proofs.Common.{sym, ◌∙◌, lit<}
+use Rattle.std.proofs.Common.{◌∙◌}
 use Rattle.decimals.proofs.plain_decimal.Goals as goal
-use Rattle.decimals.proofs.Quotients.{negated}
+use Rattle.decimals.proofs.FloatTexts.{plain_read}
 
-pub returns-then-starts_with : goal.returns-then-starts_with
-returns-then-starts_with c =
-    negated c.args.text.now c.unsigned.result.now c.in_ok-n.n c.in_ok-n.places c.quotient-x.result c.unsigned.ensures c.in_ok-n.ensures.parts c.quotient-x.ensures
-    (sym c.if-starts_with.true ∙ c.starts_with.ensures.byte (lit< tt) (lit< tt) (λ w o h. h))
+pub returns-then-is_plain : goal.returns-then-is_plain
+returns-then-is_plain c = c.ok.ensures.value ∙ plain_read c.args.text.now c.unsigned.result.now c.parse.result c.unsigned.ensures c.if-is_plain.ensures c.parse.ensures.value.1

@@ -1,8 +1,10 @@
-use Rattle.std.proofs.Common.{rules}
+use Rattle.std.proofs.Common.{◌∙◌}
 use Rattle.words.proofs.decimal.Goals as goal
-use Rattle.words.proofs.Reading.{decimal_read, decimal_text, said_or_parsed}
+use Rattle.words.proofs.Reading.{decimal_said}
+use Rattle.decimals.proofs.FloatTexts.{parsed}
 
-pub returns : goal.returns
-returns c =
-    let d = said_or_parsed c.args.word.now c.plain_decimal.result c.or_else.result _ c.plain_decimal.ensures (λ h. search (rules, decimal_read)) c.or_else.ensures in
-    record { said = d; reads = decimal_text c.args.word.now c.or_else.result d }
+pub returns-clause-rounded : goal.returns-clause-rounded
+returns-clause-rounded c = c.ok.ensures.value ∙ parsed c.args.word.now c.parse.result c.parse.ensures.value.1
+
+pub returns-clause-said : goal.returns-clause-said
+returns-clause-said c = rw c.ok.ensures.value (decimal_said c.args.word.now c.parse.result c.parse.ensures.value.0 c.parse.ensures.value.1)

@@ -1,15 +1,15 @@
 use Rattle.std.proofs.Common.{rules}
-use Rattle.call_lines.proofs.Saying.{no_run, says}
+use Rattle.call_lines.proofs.Saying.{no_run, says, alone}
 use Rattle.call_lines.proofs.reading.read_call.Goals as goal
 
 pub returns-in-LiftCall : goal.returns-in-LiftCall
 returns-in-LiftCall c = rw (c.in-LiftCall.is, ← c.one_number.ensures) (says _ _ _ _ c.map.ensures.cases (λ a d h. search (rules, no_run)))
 
 pub returns-in-ListCall : goal.returns-in-ListCall
-returns-in-ListCall c = rw (c.in-ListCall.is, ← c.no_number.ensures) (says _ _ _ _ c.map-in-ListCall.ensures.cases (λ a d h. search (rules, no_run)))
+returns-in-ListCall c = rw c.in-ListCall.is (alone _ _ _ _ c.then_some.ensures (search (rules, no_run)))
 
 pub returns-in-CountsCall : goal.returns-in-CountsCall
-returns-in-CountsCall c = rw (c.in-CountsCall.is, ← c.no_number-in-CountsCall.ensures) (says _ _ _ _ c.map-in-CountsCall.ensures.cases (λ a d h. search (rules, no_run)))
+returns-in-CountsCall c = rw c.in-CountsCall.is (alone _ _ _ _ c.then_some-in-CountsCall.ensures (search (rules, no_run)))
 
 pub returns-in-RingCall : goal.returns-in-RingCall
 returns-in-RingCall c = rw (c.in-RingCall.is, ← c.one_number-in-RingCall.ensures) (says _ _ _ _ c.map-in-RingCall.ensures.cases (λ a d h. search (rules, no_run)))

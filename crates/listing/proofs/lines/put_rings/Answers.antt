@@ -12,15 +12,17 @@ put_ring-requires c =
     let m = state_of c.args.map.now in
     let s = c.loop-s.s in
     let t : tells m.sides s ≡ true = sym c.starts_ring.ensures ∙ c.if-starts_ring.true in
-    let l : s + 1 ≤ length m.sides = omega (arith, c.side_count-s-end.ensures.value, c.loop-s-test.true) in
-    omega (
-      arith,
-      c.requires,
-      c.loop-s.invariant.put.next,
-      ap length (lines_all c.args.map.now),
-      ap length (lines_yes m s t),
-      length-append (lines_below m s) (line_from m s),
-      lines_front m (length m.sides) (s + 1) l,
+    let l : s + 1 ≤ length m.sides = omega (arith, c.side_count-s-end.ensures.value, c.loop-s-test.true) in (
+      omega (arith, l),
+      omega (
+        arith,
+        c.requires,
+        c.loop-s.invariant.put.next,
+        ap length (lines_all c.args.map.now),
+        ap length (lines_yes m s t),
+        length-append (lines_below m s) (line_from m s),
+        lines_front m (length m.sides) (s + 1) l,
+      ),
     )
 
 pub loop-s-preserved : goal.loop-s-preserved

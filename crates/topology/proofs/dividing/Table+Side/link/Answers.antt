@@ -1,10 +1,9 @@
-use Rattle.std.proofs.Common.{◌≡◌, ℕ, ◌+◌, ◌<◌, cond, eqb, take, length, sym, ap, ◌∙◌, arith}
+use Rattle.std.proofs.Common.{◌≡◌, ℕ, ◌+◌, ◌<◌, cond, eqb, take, sym, ap, ◌∙◌, arith}
 use Rattle.std.proofs.lemmas.Bool.{eq-eqb, ne_eqb, cond-true, cond-false}
 use Rattle.rings.specs.Circles.{rings}
 use Rattle.rings.proofs.Ringed.{ringed_circles}
 use Rattle.rings.proofs.Closed.{one_image}
 use Rattle.topology.specs.Rows.{next_of}
-use Rattle.topology.proofs.InUse.{long}
 use Rattle.topology.proofs.Growth.{grown_twice, grown_used}
 use Rattle.topology.proofs.Linking.{linked_rows, linked_drop, linked_size}
 use Rattle.topology.proofs.dividing.«Table+Side».link.Goals as goal
@@ -25,8 +24,8 @@ returns c =
     ] in
     let p = c.before-p in
     let q = c.before-q in
-    let s = c.in_use-sides.ensures in
-    let us_long : length c.in_use-sides.result.now ≡ n = ap length s ∙ long full n t.fits in
+    let s = c.in_use-sides.ensures.rows in
+    let us_long = c.in_use-sides.ensures.long in
     let lp : p.result < n = omega (arith, p.ensures.low, us_long) in
     let lq : q.result < n = omega (arith, q.ensures.low, us_long) in
     let fp = ap (λ xs. next_of xs p.result) (sym s) ∙ p.ensures.leads in

@@ -9,10 +9,11 @@ returns c =
     let full = t.rows.now in
     let a = c.args.arc in
     let F = renumbered c.args.numbers in
+    let m = c.copy_within.ensures.after in
     let e = c.renumber.ensures in
     record {
-      rows = without_rows full t.used a c.requires.here c.requires.even t.fits F _ e;
-      rest = without_rest full t.used a c.requires.here c.requires.even t.fits F _ e;
-      long = without_long full t.used a c.requires.here c.requires.even t.fits F _ e;
+      rows = without_rows full t.used a c.requires.here c.requires.even t.fits F _ _ m e;
+      rest = without_rest full t.used a c.requires.here c.requires.even t.fits F _ _ m e;
+      long = without_long full t.used a c.requires.here c.requires.even t.fits F _ _ m e;
       lent = refl;
     }

@@ -1,10 +1,6 @@
-use Rattle.std.proofs.Common.{◌+◌, length, take, refl, ap, ◌∙◌, arith}
-use Rattle.topology.specs.States.{state_of}
-use Rattle.topology.specs.Lifts.{lift_numbers}
-use Rattle.topology.specs.Dissolves.{freed}
+use Rattle.std.proofs.Common.{refl, arith}
 use Rattle.topology.proofs.InUse.{long}
 use Rattle.topology.proofs.Shrinking.{removed_used}
-use Rattle.topology.proofs.LiftDone.{left_told}
 use Rattle.topology.proofs.DissolveDone.{room, rest_are, lent_are, dissolve_few, dissolve_law, dissolve_agrees, dissolve_merged, dissolve_sum, free_used}
 use Rattle.topology.proofs.map.Map.dissolve_arc.Goals as goal
 
@@ -15,8 +11,7 @@ numbers_where-numbers-requires-clause-nodes_few c =
     let t = c.set_free.new.self in
     omega (
       arith,
-      ap length c.in_use.ensures,
-      long t.rows.now t.used t.fits,
+      c.in_use.ensures.long,
       free_used m a t c.set_free.ensures,
       room m a c.requires.here c.requires.apart c.requires.some,
     )
@@ -47,13 +42,12 @@ invariant_of-self c =
     let t = c.set_free.new.self in
     let s = c.remove.new.self in
     let w = c.put_back.new.self in
-    let d = c.numbers_where-numbers.result in
-    let left = c.polygons_left-self.result in
     let free = c.set_free.ensures in
-    let numbers = c.numbers_where-numbers.ensures ∙ ap (λ us. lift_numbers us (m.nodes + 1) m.polygons a) c.in_use.ensures in
-    let lefts = left_told (take t.used t.rows.now) (freed (state_of m).sides m.nodes a) d (m.nodes + 1) m.polygons a left free.rows numbers c.polygons_left-self.ensures in
-    let few = dissolve_few m a here apart some t s w d left free numbers c.remove.ensures c.put_back.ensures lefts in
-    record { arcs_few = few.0; vertices_few = few.1; law = dissolve_law m a here apart some t s w d left free numbers c.remove.ensures c.put_back.ensures lefts }
+    let rows = c.in_use.ensures.rows in
+    let given = c.numbers_where-numbers.ensures in
+    let told = c.polygons_left-self.ensures in
+    let few = dissolve_few m a here apart some t s w _ _ _ free rows given c.remove.ensures c.put_back.ensures told in
+    record { arcs_few = few.0; vertices_few = few.1; law = dissolve_law m a here apart some t s w _ _ _ free rows given c.remove.ensures c.put_back.ensures told }
 
 pub returns : goal.returns
 returns c =
@@ -65,20 +59,19 @@ returns c =
     let t = c.set_free.new.self in
     let s = c.remove.new.self in
     let w = c.put_back.new.self in
-    let d = c.numbers_where-numbers.result in
-    let left = c.polygons_left-self.result in
     let free = c.set_free.ensures in
     let shrunk = c.remove.ensures in
     let back = c.put_back.ensures in
-    let numbers = c.numbers_where-numbers.ensures ∙ ap (λ us. lift_numbers us (m.nodes + 1) m.polygons a) c.in_use.ensures in
-    let lefts = left_told (take t.used t.rows.now) (freed (state_of m).sides m.nodes a) d (m.nodes + 1) m.polygons a left free.rows numbers c.polygons_left-self.ensures in
+    let rows = c.in_use.ensures.rows in
+    let given = c.numbers_where-numbers.ensures in
+    let told = c.polygons_left-self.ensures in
     record {
       done = record {
-        agrees = dissolve_agrees m a here apart some t s w d left free numbers shrunk back lefts;
-        keeps = (rest_are m a here apart some t s w d left free numbers shrunk back lefts, refl);
-        sides_lent = lent_are m a here apart some t s w d left free numbers shrunk back lefts;
+        agrees = dissolve_agrees m a here apart some t s w _ _ _ free rows given shrunk back told;
+        keeps = (rest_are m a here apart some t s w _ _ _ free rows given shrunk back told, refl);
+        sides_lent = lent_are m a here apart some t s w _ _ _ free rows given shrunk back told;
         vertices_lent = refl;
       };
-      rings = dissolve_merged m a here apart some t s w d left free numbers shrunk back lefts;
-      sum = dissolve_sum m a here apart some t s w d left free numbers shrunk back lefts;
+      rings = dissolve_merged m a here apart some t s w _ _ _ free rows given shrunk back told;
+      sum = dissolve_sum m a here apart some t s w _ _ _ free rows given shrunk back told;
     }

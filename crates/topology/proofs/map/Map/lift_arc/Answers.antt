@@ -1,9 +1,7 @@
-use Rattle.std.proofs.Common.{◌≡◌, refl, ap, ◌∙◌, arith}
-use Rattle.topology.specs.States.{state_of}
-use Rattle.topology.specs.Lifts.{lift_numbers}
+use Rattle.std.proofs.Common.{arith}
 use Rattle.topology.proofs.InUse.{long}
 use Rattle.topology.proofs.Shrinking.{removed_used}
-use Rattle.topology.proofs.LiftDone.{some_node, left_told, lift_few, lift_law, lift_fewer}
+use Rattle.topology.proofs.LiftDone.{some_node, lift_few, lift_law, lift_fewer}
 use Rattle.topology.proofs.map.Map.lift_arc.Goals as goal
 
 pub numbers_where-numbers-requires-clause-some_node : goal.numbers_where-numbers-requires-clause-some_node
@@ -17,20 +15,14 @@ invariant_of-self c =
     let m = c.args.self.now in
     let a = c.args.arc in
     let s = c.remove.new.self in
-    let d = c.numbers_where-numbers.result in
-    let e : d ≡ lift_numbers (state_of m).sides m.nodes m.polygons a = c.numbers_where-numbers.ensures ∙ ap (λ us. lift_numbers us m.nodes m.polygons a) c.in_use.ensures in
-    let left = left_told (state_of m).sides (state_of m).sides d m.nodes m.polygons a c.polygons_left-self.result refl e c.polygons_left-self.ensures in
-    let few = lift_few m s d a c.polygons_left-self.result e c.requires.here c.requires.alone c.requires.leaves c.remove.ensures left in
-    record { arcs_few = few.0; vertices_few = few.1; law = lift_law m s d a c.polygons_left-self.result e c.requires.here c.requires.alone c.requires.leaves c.remove.ensures left }
+    let few = lift_few m s _ _ a _ c.in_use.ensures.rows c.numbers_where-numbers.ensures c.requires.here c.requires.alone c.requires.leaves c.remove.ensures c.polygons_left-self.ensures in
+    record { arcs_few = few.0; vertices_few = few.1; law = lift_law m s _ _ a _ c.in_use.ensures.rows c.numbers_where-numbers.ensures c.requires.here c.requires.alone c.requires.leaves c.remove.ensures c.polygons_left-self.ensures }
 
 pub returns-clause-rings : goal.returns-clause-rings
 returns-clause-rings c =
     let m = c.args.self.now in
     let a = c.args.arc in
-    let d = c.numbers_where-numbers.result in
-    let e : d ≡ lift_numbers (state_of m).sides m.nodes m.polygons a = c.numbers_where-numbers.ensures ∙ ap (λ us. lift_numbers us m.nodes m.polygons a) c.in_use.ensures in
-    let left = left_told (state_of m).sides (state_of m).sides d m.nodes m.polygons a c.polygons_left-self.result refl e c.polygons_left-self.ensures in
-    lift_fewer m c.remove.new.self d a c.polygons_left-self.result e c.requires.here c.requires.alone c.requires.leaves c.remove.ensures left
+    lift_fewer m c.remove.new.self _ _ a _ c.in_use.ensures.rows c.numbers_where-numbers.ensures c.requires.here c.requires.alone c.requires.leaves c.remove.ensures c.polygons_left-self.ensures
 
 pub returns-clause-counts : goal.returns-clause-counts
 returns-clause-counts c =

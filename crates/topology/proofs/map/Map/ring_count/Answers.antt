@@ -17,7 +17,7 @@ returns c =
     let L = lawful_of m in
     let value =
     c.count_starts.ensures
-    ∙ (ap (λ (xs : List Side). length (kept (tells xs) (length xs))) c.in_use.ensures ∙ count_kept us (length us) L.in_rings L.low_along L.low_below L.low_names) in
+    ∙ (ap (λ (xs : List Side). length (kept (tells xs) (length xs))) c.in_use.ensures.rows ∙ count_kept us (length us) L.in_rings L.low_along L.low_below L.low_names) in
     let circles = ringed_circles (next_of us) (length us) L.in_rings in
     let order = rings_order (next_of us) (length us) L.in_rings in
     record {

@@ -15,5 +15,5 @@ returns c =
     let second = c.args.second in
     let L = lawful_of m in
     let l = long m.sides.rows.now m.sides.used m.sides.fits in
-    ap (λ (xs : List Side). eqb (low_of xs first) (low_of xs second)) c.in_use-sides.ensures
+    ap (λ (xs : List Side). eqb (low_of xs first) (low_of xs second)) c.in_use-sides.ensures.rows
     ∙ sym (meets_low (next_of us) (low_of us) (length us) L.in_rings L.low_along L.low_names first second (omega arith) (omega arith))

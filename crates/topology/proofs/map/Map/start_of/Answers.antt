@@ -17,6 +17,6 @@ bounds-in_use-row c =
     omega (
       arith,
       row_low us (state_of m).vertices (length us) s L.paired L.runs_stand (omega arith),
-      ap (λ (xs : List Side). row_of xs s) c.in_use.ensures,
-      ap length c.in_use-2.ensures,
+      ap (λ (xs : List Side). row_of xs s) c.in_use.ensures.rows,
+      ap length c.in_use-2.ensures.rows,
     )

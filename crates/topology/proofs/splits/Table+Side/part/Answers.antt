@@ -1,6 +1,5 @@
-use Rattle.std.proofs.Common.{◌<◌, length, ap, sym, ◌∙◌, arith}
+use Rattle.std.proofs.Common.{◌<◌, ap, sym, ◌∙◌, arith}
 use Rattle.topology.specs.Rows.{next_of}
-use Rattle.topology.proofs.InUse.{long}
 use Rattle.topology.proofs.Growth.{grown_twice, grown_used}
 use Rattle.topology.proofs.Splitting.{rows_pushed, rest_kept, three_long}
 use Rattle.topology.proofs.splits.«Table+Side».part.Goals as goal
@@ -12,9 +11,9 @@ returns c =
     let n = t.used in
     let a = c.args.arc in
     let p = c.before-p.result in
-    let s = c.in_use.ensures in
+    let s = c.in_use.ensures.rows in
     let here = c.requires.here in
-    let lp : p < n = omega (arith, c.before-p.ensures.low, ap length s, long full n t.fits) in
+    let lp : p < n = omega (arith, c.before-p.ensures.low, c.in_use.ensures.long) in
     let leads = ap (λ xs. next_of xs p) (sym s) ∙ c.before-p.ensures.leads in
     let g = grown_twice _ c.push.new.self c.push-2.new.self _ _ c.push.ensures c.push-2.ensures in
     record {
