@@ -1,12 +1,11 @@
 -- Rows that were never in use stay as they were.
 use Rattle.std.proofs.Common.{◌≡◌, ℕ, ◌+◌, ◌-◌, ◌<◌, ◌≤◌, cond, leb, List, [], ◌∷◌, length, get_or, drop, Ok, Result, sym, ap, ◌∙◌, subst, arith}
 use Rattle.std.proofs.lemmas.Bool.Decides.{nat_tests}
-use Rattle.std.proofs.lemmas.List.{at_drop_more, drop-drop}
+use Rattle.std.proofs.lemmas.List.{at_drop_more, drop-drop, length-take-le}
 use Rattle.refusal.specs.declared.Refusal.{Refusal}
 use Rattle.topology.specs.declared.map.Map.{Map}
 use Rattle.topology.specs.declared.vertex.Vertex.{Vertex}
 use Rattle.topology.specs.States.{State, state_of}
-use Rattle.topology.proofs.InUse.{long}
 use Rattle.calls.specs.declared.call.Call.{Call}
 use Rattle.calls.specs.declared.answer.Answer.{Answer}
 use Rattle.calls.specs.declared.answer.Answer.TheVariants.{Done}
@@ -43,8 +42,8 @@ same_free was is i j e = record { free_sides = λ k l. ap (λ (m : Map). drop k 
 -- one call leaves the rows past those that it leaves in use
 call_free : (was is : Map) (a : Result Answer Refusal) → Keeps was is a → FreeRows (sides_used (state_of is)) (vertices_used (state_of is)) was is
 call_free was is (Ok Done) k =
-    let s = long is.sides.rows.now is.sides.used is.sides.fits in
-    let v = long is.vertices.rows.now is.vertices.used is.vertices.fits in
+    let s = length-take-le is.sides.used is.sides.rows.now is.sides.fits in
+    let v = length-take-le is.vertices.used is.vertices.rows.now is.vertices.fits in
     record {
       free_sides = λ j l. further is.sides.rows.now was.sides.rows.now is.sides.used j (omega (arith, s, l)) k.0;
       free_vertices = λ j l. further is.vertices.rows.now was.vertices.rows.now is.vertices.used j (omega (arith, v, l)) k.1;

@@ -1,6 +1,7 @@
 -- Text put piece after piece.
 use Rattle.std.proofs.Common.{◌≡◌, ℕ, zero, suc, ◌+◌, ◌*◌, ◌/◌, ◌%◌, ◌^◌, ◌<◌, ◌≤◌, true, false, cond, eqb, List, [], ◌∷◌, ◌++◌, length, set, codes, decimal, Option, Some, None, IfSome, IfNone, MatchOption, sym, refl, ap, ◌∙◌, subst, pow-suc, lit<, arith}
 use lib.Seq.{sets}
+use Rattle.std.proofs.Math.Nat.{one-le-pow}
 use Rattle.std.proofs.lemmas.List.{length-append, append_assoc, length_push, set_past}
 use Rattle.std.proofs.lemmas.Fmt.{decimal_digit, decimal_step, decimal_nonempty, length-decimal-le}
 use Rattle.listing.specs.Puts.{HasRoom, Put, Puts, two, four}
@@ -65,10 +66,6 @@ put_past was at (w ∷ ws) h = put_past was (suc at) ws (omega arith) ∙ ap (λ
 
 -- ---- digits
 
-ten_pos : (k : ℕ) → 0 < 10 ^ k
-ten_pos zero = lit< tt
-ten_pos (suc k) = rw pow-suc (omega (arith, ten_pos k))
-
 pub length_digit : (n : ℕ) → n < 10 → length (decimal n) ≡ 1
 length_digit n h = ap length (decimal_digit n h)
 
@@ -111,7 +108,7 @@ length_least : (k n : ℕ) → 10 ^ k ≤ n → n < 2 ^ 64 → k + 1 ≤ length 
 length_least zero n h l = omega (arith, decimal_nonempty n l)
 length_least (suc k) n h l =
     let t : 10 ^ k * 10 ≤ n = rw pow-suc at h in
-    let p : 0 < 10 ^ k = ten_pos k in
+    let p : 0 < 10 ^ k = one-le-pow k 10 (lit< tt) in
     omega (arith, length_digits n (omega arith) l, length_least k (n / 10) (omega arith) (omega arith))
 
 -- how many digits a number has, by the greatest power of ten in it

@@ -1,7 +1,7 @@
 -- How long a listing can be.
 use Rattle.std.proofs.Common.{ℕ, zero, suc, ◌*◌, ◌/◌, ◌^◌, ◌<◌, ◌≤◌, Bool, eqb, List, [], ◌∷◌, ◌++◌, length, decimal, ap, arith}
 use Rattle.std.proofs.lemmas.Fmt.{length-decimal-le}
-use Rattle.std.proofs.lemmas.List.{length-append}
+use Rattle.std.proofs.lemmas.List.{length-append, length-take-le}
 use Rattle.std.proofs.lemmas.Bool.{cond_both}
 use Rattle.rings.specs.Circles.{walk, ring, kept}
 use Rattle.rings.proofs.Closed.{within}
@@ -10,7 +10,6 @@ use Rattle.topology.specs.declared.map.Map.{Map}
 use Rattle.topology.specs.Rows.{next_of, polygon_of, tells}
 use Rattle.topology.specs.States.{State, state_of}
 use Rattle.topology.specs.Questions.{arc_count, rings_of}
-use Rattle.topology.proofs.InUse.{long}
 use Rattle.topology.proofs.Assembling.{lawful_of}
 use Rattle.topology.proofs.Lowest.{count_kept}
 use Rattle.listing.specs.Texts.{side_text, sides_text, ring_lines, head_line, listing}
@@ -48,7 +47,7 @@ lines_short m (suc k) h =
     (λ _. omega (arith, lines_short m k (λ s l. h s (omega arith)), length-append (lines_below m k) []))
 
 sides_few : (m : Map) → length (state_of m).sides ≤ 32768
-sides_few m = omega (arith, long m.sides.rows.now m.sides.used m.sides.fits, m.arcs_few)
+sides_few m = omega (arith, length-take-le m.sides.used m.sides.rows.now m.sides.fits, m.arcs_few)
 
 line_short : (m : Map) (s : ℕ) → s < length (state_of m).sides → length (line_from (state_of m) s) ≤ 800000
 line_short m s l =

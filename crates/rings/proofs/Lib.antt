@@ -8,7 +8,6 @@ pub mod Links
 pub mod Closed
 pub mod Split
 pub mod Rename
-pub mod Renumber
 pub mod Island
 pub mod Words
 pub mod Walks
@@ -24,7 +23,9 @@ pub mod Ringwise
 pub mod Division
 pub mod TwoRings
 pub mod Join
-pub mod Dissolve
 pub mod SplitRings
 pub mod SetFree
 pub mod SameLow
+pub mod SideOut
+pub mod Renamed
+pub mod TakesOver

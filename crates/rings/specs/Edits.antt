@@ -26,12 +26,6 @@ abbrev pub divide_polygon : (ℕ → ℕ) → (ℕ → ℕ) → ℕ → ℕ → 
 divide_polygon f pol n p q new x =
     cond (meets (divide_next f n p q) (suc (suc n)) (suc n) x) new (put (put pol (suc n) (pol p)) n (pol p) x)
 
--- without n and suc n: p, which came before n, leads to what came after suc n, and q, which came before suc n, to
--- what came after n; where one of the two was alone, the other is just left out
-abbrev pub dissolve_next : (ℕ → ℕ) → ℕ → ℕ → ℕ → ℕ → ℕ
-dissolve_next f n p q =
-    put (put f p (cond (f (suc n) == suc n) (f n) (f (suc n)))) q (cond (f n == n) (f (suc n)) (f n))
-
 -- n and suc n, each a ring alone, at the node new
 abbrev pub island_next : (ℕ → ℕ) → ℕ → ℕ → ℕ
 island_next f n = put (put f n n) (suc n) (suc n)
@@ -42,13 +36,18 @@ island_node node n new = put (put node n new) (suc n) new
 abbrev pub island_polygon : (ℕ → ℕ) → ℕ → ℕ → ℕ → ℕ → ℕ
 island_polygon pol n low high = put (put pol n low) (suc n) high
 
--- the number of an arc, or of a side, after arcs a and z have exchanged their numbers
-abbrev pub exchanged_arc : ℕ → ℕ → ℕ → ℕ
-exchanged_arc a z b = cond (b == a) z (cond (b == z) a b)
+-- a number, after a and z have exchanged theirs
+abbrev pub swapped : ℕ → ℕ → ℕ → ℕ
+swapped a z b = cond (b == a) z (cond (b == z) a b)
 
+-- the number of a side, after arcs a and z have exchanged theirs
 abbrev pub exchanged : ℕ → ℕ → ℕ → ℕ
-exchanged a z s = 2 * exchanged_arc a z (s / 2) + s % 2
+exchanged a z s = 2 * swapped a z (s / 2) + s % 2
 
 -- where one of its kind goes, the highest number fills the gap
 abbrev pub fill : ℕ → ℕ → ℕ → ℕ
 fill gap highest k = cond (k == highest) gap k
+
+-- side t leaves its ring for one of its own: what led to it leads past it
+abbrev pub leave : (ℕ → ℕ) → ℕ → ℕ → ℕ
+leave f t k = cond (k == t) t (cond (f k == t) (f t) (f k))

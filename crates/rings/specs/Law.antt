@@ -26,12 +26,6 @@ Along next pol n = (s : ℕ) → s < n → pol (next s) ≡ pol s
 abbrev pub Noded : (ℕ → ℕ) → (ℕ → ℕ) → ℕ → ℕ → Type 0
 Noded next node n nodes = (v : ℕ) → occ v (names node (rings (turn next) n)) ≡ one_if (nat_lt v nodes)
 
--- the sides come in pairs; each side stands in one ring, once, and in one turn, once; the rings close; a ring has one
--- polygon; each node has one turn
-abbrev pub Law : (ℕ → ℕ) → (ℕ → ℕ) → (ℕ → ℕ) → ℕ → ℕ → Type 0
-Law next node pol n nodes =
-    (n % 2 ≡ 0) × Ringed next n × Ringed (turn next) n × Closes next node n × Along next pol n × Noded next node n nodes
-
 -- low tells the lowest member of each circle: one number along the circle, at most each member, and named by that one circle
 abbrev pub LowAlong : (ℕ → ℕ) → (ℕ → ℕ) → ℕ → Type 0
 LowAlong next low n = Along next low n

@@ -1,6 +1,7 @@
 -- The law of a map as the law of its state, the state of two tables, and the room that they have.
 use Rattle.std.proofs.Common.{◌≡◌, ℕ, ◌+◌, ◌≤◌, true, ◌&&◌, leb, List, length, take, sym, refl, subst}
 use Rattle.std.proofs.lemmas.Bool.{and_parts, leb-true}
+use Rattle.std.proofs.lemmas.List.{length-take-le}
 use Rattle.topology.specs.declared.side.Side.{Side}
 use Rattle.topology.specs.declared.vertex.Vertex.{Vertex}
 use Rattle.topology.specs.declared.hand.Hand.{Hand}
@@ -9,7 +10,6 @@ use Rattle.topology.specs.declared.map.Map.{Map}
 use Rattle.topology.specs.States.{State, state_of}
 use Rattle.topology.specs.Lawfuls.{Lawful}
 use Rattle.topology.specs.Islands.{arc_room, vertex_room}
-use Rattle.topology.proofs.InUse.{long}
 
 pub lawful_at : {us us' : List Side} {vs vs' : List Vertex} {n n' : ℕ} (nodes polygons : ℕ) → us ≡ us' → vs ≡ vs' → n ≡ n' → Lawful us vs n nodes polygons → Lawful us' vs' n' nodes polygons
 lawful_at {us = us} {us' = us'} {vs = vs} {vs' = vs'} {n = n} nodes polygons d e f l =
@@ -19,7 +19,7 @@ lawful_at {us = us} {us' = us'} {vs = vs} {vs' = vs'} {n = n} nodes polygons d e
 -- the law of a map, from its type
 pub lawful_of : (m : Map) → Lawful (state_of m).sides (state_of m).vertices (length (state_of m).sides) m.nodes m.polygons
 lawful_of m =
-    lawful_at {us = (state_of m).sides} {vs = (state_of m).vertices} m.nodes m.polygons refl refl (sym (long m.sides.rows.now m.sides.used m.sides.fits)) m.law
+    lawful_at {us = (state_of m).sides} {vs = (state_of m).vertices} m.nodes m.polygons refl refl (sym (length-take-le m.sides.used m.sides.rows.now m.sides.fits)) m.law
 
 -- the state of two tables
 abbrev pub state_from : Hand → Table Side → Table Vertex → ℕ → ℕ → State

@@ -17,13 +17,10 @@ use Rattle.topology.specs.Questions.{arc_count, Rises}
 use Rattle.topology.specs.Renumbered.{renumbered}
 use Rattle.topology.specs.Lifts.{lift_numbers, rows_without, lifted_sides, polygons_left, lifted}
 use Rattle.topology.specs.Dissolves.{share_ring, both_alone, freed, set_free, dissolve_outcome, RingsMerged, PutBack}
-use Rattle.std.proofs.lemmas.List.{drop-drop, length-set, length-map}
-use Rattle.topology.proofs.InUse.{long}
-use Rattle.topology.proofs.FreedRows.{back_rows, back_long, back_rest}
+use Rattle.std.proofs.lemmas.List.{drop-drop, length-set, length-map, length-take-le}
 use Rattle.topology.proofs.Growth.{held_used}
-use Rattle.topology.proofs.Shrinking.{removed_used}
 use Rattle.topology.proofs.Assembling.{lawful_at, lawful_of, state_from}
-use Rattle.topology.proofs.LiftDone.{left_told}
+use Rattle.topology.proofs.TakenOut.{sides_are, used_are, length_are, rows_long, rest_are, lent_are}
 use Rattle.topology.proofs.DissolveLaw.{dissolve_lawful, dissolve_rings, dissolve_meets, node_room}
 
 free_long : (us : List Side) (node a : ℕ) → length (freed us node a) ≡ length us
@@ -32,7 +29,7 @@ free_long us node a = simp (length-set, length-map) refl
 pub free_used : (m : Map) (a : ℕ) (t : Table Side) → Holds m.sides t (freed (state_of m).sides m.nodes a) → t.used ≡ m.sides.used
 free_used m a t free =
     held_used m.sides t (freed (state_of m).sides m.nodes a) free
-    ∙ (free_long (state_of m).sides m.nodes a ∙ long m.sides.rows.now m.sides.used m.sides.fits)
+    ∙ (free_long (state_of m).sides m.nodes a ∙ length-take-le m.sides.used m.sides.rows.now m.sides.fits)
 
 module _ (m : Map) (a : ℕ) (here : a < arc_count (state_of m)) (apart : share_ring (state_of m).sides a ≡ false) (some : both_alone (state_of m).sides a ≡ false) where
   abbrev us : List Side
@@ -51,7 +48,7 @@ module _ (m : Map) (a : ℕ) (here : a < arc_count (state_of m)) (apart : share_
   z = length us / 2 - 1
 
   pub sides_long : length us ≡ m.sides.used
-  sides_long = long m.sides.rows.now m.sides.used m.sides.fits
+  sides_long = length-take-le m.sides.used m.sides.rows.now m.sides.fits
 
   two_more : length us ≡ suc (suc (z + z))
   two_more = omega (arith, (lawful_of m).paired, here)
@@ -66,91 +63,52 @@ module _ (m : Map) (a : ℕ) (here : a < arc_count (state_of m)) (apart : share_
   pub room : m.nodes + 1 ≤ m.sides.used
   room = omega (arith, node_room us vs m.nodes m.polygons z a two_more low L apart some, two_more, sides_long)
 
-  module _ (t s w : Table Side) (ys : List Side) (c : Renumbering) (left : ℕ) (free : Holds m.sides t (freed (state_of m).sides m.nodes a))
-      (rows : ys ≡ take t.used t.rows.now) (given : c ≡ lift_numbers ys (m.nodes + 1) m.polygons a) (shrunk : Holds t s (map (renumbered c) (rows_without (take t.used t.rows.now) a)))
+  long_us : length us₁ ≡ suc (suc (z + z))
+  long_us = free_long us m.nodes a ∙ two_more
+
+  pub used_now : m.sides.used ≡ suc (suc (z + z))
+  used_now = sym sides_long ∙ two_more
+
+  module _ (t s w : Table Side) (left : ℕ) (free : Holds m.sides t us₁) (shrunk : Holds t s (lifted_sides (take t.used t.rows.now) (m.nodes + 1) m.polygons a))
       (back : PutBack s w (get_or m.sides.rows.now (m.sides.used - 2) no_side) (get_or m.sides.rows.now (m.sides.used - 1) no_side))
-      (told : left ≡ cond (eqb c.polygon c.into) m.polygons (m.polygons - 1)) where
-    numbers : c ≡ lift_numbers (take t.used t.rows.now) (m.nodes + 1) m.polygons a
-    numbers = given ∙ ap (λ (zs : List Side). lift_numbers zs (m.nodes + 1) m.polygons a) rows
-
+      (told : left ≡ polygons_left (take t.used t.rows.now) m.polygons a) where
     lefts : left ≡ polygons_left us₁ m.polygons a
-    lefts = left_told (take t.used t.rows.now) us₁ c (m.nodes + 1) m.polygons a left free.rows numbers told
+    lefts = told ∙ ap (λ (xs : List Side). polygons_left xs m.polygons a) free.rows
 
-    abbrev full : List Side
-    full = m.sides.rows.now
+    sides_now : take w.used w.rows.now ≡ us₂
+    sides_now = sides_are m.sides t s w us₁ (m.nodes + 1) m.polygons a z used_now long_us free shrunk back
 
-    used_same : t.used ≡ m.sides.used
-    used_same = free_used m a t free
+    used_is : w.used ≡ z + z
+    used_is = used_are m.sides t s w us₁ (m.nodes + 1) m.polygons a z used_now long_us free shrunk back
 
-    used_less : s.used ≡ m.sides.used - 2
-    used_less = removed_used (renumbered c) t s a shrunk ∙ ap (λ (k : ℕ). k - 2) used_same
+    length₂ : length (take w.used w.rows.now) ≡ z + z
+    length₂ = length_are m.sides t s w us₁ (m.nodes + 1) m.polygons a z used_now long_us free shrunk back
 
-    two_fewer : s.used + 2 ≡ m.sides.used
-    two_fewer = omega (arith, used_less, sides_long, two_more)
+    rows_kept : length w.rows.now ≡ length m.sides.rows.now
+    rows_kept = rows_long m.sides t s w us₁ (m.nodes + 1) m.polygons a z used_now long_us free shrunk back
 
-    one_fewer : m.sides.used - 1 ≡ s.used + 1
-    one_fewer = omega (arith, used_less, sides_long, two_more)
+    pub rest_kept : drop w.used w.rows.now ≡ drop w.used m.sides.rows.now
+    rest_kept = rest_are m.sides t s w us₁ (m.nodes + 1) m.polygons a z used_now long_us free shrunk back
 
-    rows_back : w.rows.now ≡ set (set s.rows.now s.used (get_or full s.used no_side)) (s.used + 1) (get_or full (s.used + 1) no_side)
-    rows_back =
-        back.rows
-        ∙ (ap (λ (k : ℕ). set (set s.rows.now s.used (get_or full k no_side)) (s.used + 1) (get_or full (m.sides.used - 1) no_side)) (sym used_less)
-        ∙ ap (λ (k : ℕ). set (set s.rows.now s.used (get_or full s.used no_side)) (s.used + 1) (get_or full k no_side)) one_fewer)
-
-    long_less : length s.rows.now ≡ length full
-    long_less = shrunk.long ∙ free.long
-
-    fits_less : s.used + 2 ≤ length full
-    fits_less = omega (arith, two_fewer, m.sides.fits)
-
-    beyond : drop (s.used + 2) s.rows.now ≡ drop (s.used + 2) full
-    beyond =
-        let e : s.used + 2 ≡ t.used = omega (arith, two_fewer, used_same) in
-        sym (drop-drop 2 s.used s.rows.now)
-        ∙ (ap (drop 2) shrunk.rest ∙ (drop-drop 2 s.used t.rows.now ∙ (ap (λ (k : ℕ). drop k t.rows.now) e ∙ (free.rest ∙ ap (λ (k : ℕ). drop k full) (sym e)))))
-
-    sides_are : take w.used w.rows.now ≡ us₂
-    sides_are =
-        ap (λ (k : ℕ). take k w.rows.now) back.used
-        ∙ (ap (take s.used) rows_back
-        ∙ (back_rows s.rows.now full s.used fits_less long_less beyond
-        ∙ (shrunk.rows
-        ∙ (ap (λ (d : Renumbering). map (renumbered d) (rows_without (take t.used t.rows.now) a)) numbers
-        ∙ ap (λ (xs : List Side). lifted_sides xs (m.nodes + 1) m.polygons a) free.rows))))
-
-    pub used_are : w.used ≡ z + z
-    used_are = omega (arith, back.used, two_fewer, sides_long, two_more)
-
-    long_are : length w.rows.now ≡ length full
-    long_are = ap length rows_back ∙ back_long s.rows.now full s.used fits_less long_less beyond
-
-    pub rest_are : drop w.used w.rows.now ≡ drop w.used full
-    rest_are =
-        ap (λ (k : ℕ). drop k w.rows.now) back.used
-        ∙ (ap (drop s.used) rows_back ∙ (back_rest s.rows.now full s.used fits_less long_less beyond ∙ ap (λ (k : ℕ). drop k full) (sym back.used)))
-
-    pub lent_are : w.rows.ghost_name ≡ m.sides.rows.ghost_name
-    lent_are = back.lent ∙ (shrunk.lent ∙ free.lent)
-
-    pub used_two : w.used + 2 ≡ m.sides.used
-    used_two = omega (arith, back.used, two_fewer)
+    pub lent_kept : w.rows.ghost_name ≡ m.sides.rows.ghost_name
+    lent_kept = lent_are m.sides t s w us₁ (m.nodes + 1) m.polygons a z used_now long_us free shrunk back
 
     -- the rows in use are few enough
     pub dissolve_few : (w.used ≤ 32768) × (m.vertices.used ≤ 1048576)
-    dissolve_few = (omega (arith, used_two, m.arcs_few), m.vertices_few)
+    dissolve_few = (omega (arith, used_is, used_now, m.arcs_few), m.vertices_few)
 
     pub dissolve_law : Lawful (take w.used w.rows.now) vs w.used m.nodes left
     dissolve_law =
         subst (λ (k : ℕ). Lawful (take w.used w.rows.now) vs w.used m.nodes k) (sym lefts)
-        (lawful_at {vs = vs} m.nodes (polygons_left us₁ m.polygons a) (sym sides_are) refl (sym used_are)
+        (lawful_at {vs = vs} m.nodes (polygons_left us₁ m.polygons a) (sym sides_now) refl (sym used_is)
         (dissolve_lawful us vs m.nodes m.polygons z a two_more low L apart some))
 
     state_done : state_from m.hand w m.vertices m.nodes left ≡ lifted (set_free (state_of m) a) a
     state_done =
         let e : m.nodes ≡ m.nodes + 1 - 1 = omega arith in
         ap (λ (k : ℕ). state_from m.hand w m.vertices m.nodes k) lefts
-        ∙ (ap (λ (x : List Side). of x m.nodes (length w.rows.now)) sides_are
-        ∙ (ap (λ (k : ℕ). of us₂ k (length w.rows.now)) e ∙ ap (of us₂ (m.nodes + 1 - 1)) long_are))
+        ∙ (ap (λ (x : List Side). of x m.nodes (length w.rows.now)) sides_now
+        ∙ (ap (λ (k : ℕ). of us₂ k (length w.rows.now)) e ∙ ap (of us₂ (m.nodes + 1 - 1)) rows_kept))
       where
         of : List Side → ℕ → ℕ → State
         of x nodes k = record {
@@ -169,20 +127,17 @@ module _ (m : Map) (a : ℕ) (here : a < arc_count (state_of m)) (apart : share_
         ∙ sym (cond-true (ltb a (arc_count (state_of m))) _ (Err NoSuchElement) (lt-ltb a (arc_count (state_of m)) here)
         ∙ (cond-false (share_ring us a) (Err SidesShareRing) _ apart ∙ cond-false (both_alone us a) (Err RingsAlone) (Ok (lifted (set_free (state_of m) a) a)) some))
 
-    length₂ : length (take w.used w.rows.now) ≡ z + z
-    length₂ = long w.rows.now w.used w.fits ∙ used_are
-
     pub dissolve_merged : RingsMerged (state_of m) (state_from m.hand w m.vertices m.nodes left) a
     dissolve_merged = record {
       fewer =
           let x = ap (λ (j : ℕ). length (rings (next_of (take w.used w.rows.now)) j)) length₂ in
-          let y = ap (λ (w : List Side). length (rings (next_of w) (z + z))) sides_are in
+          let y = ap (λ (w : List Side). length (rings (next_of w) (z + z))) sides_now in
           let r = dissolve_rings us vs m.nodes m.polygons z a two_more low L apart some in
           let q = ap (λ (j : ℕ). length (rings (next_of us) j)) two_more in
           omega (arith, x, y, r, q);
       rings = λ k i lk li.
           ap (λ (j : ℕ). meets (next_of (take w.used w.rows.now)) j k i) length₂
-          ∙ (ap (λ (w : List Side). meets (next_of w) (z + z) k i) sides_are
+          ∙ (ap (λ (w : List Side). meets (next_of w) (z + z) k i) sides_now
           ∙ (dissolve_meets us vs m.nodes m.polygons z a two_more low L apart some k i (omega (arith, lk, length₂)) (omega (arith, li, length₂))
           ∙ ap (λ (n : ℕ).
           meets (next_of us) n (exchanged a z k) (exchanged a z i)

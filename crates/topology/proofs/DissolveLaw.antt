@@ -14,7 +14,7 @@ use Rattle.topology.specs.Dissolves.{share_ring, both_alone, freed}
 use Rattle.topology.proofs.LiftLaw.{lift_lawful, lift_rings, σ-low, not_gone, row_is, next_is, node_is}
 use Rattle.topology.proofs.FreedLaw.{freed_lawful, freed_alone, freed_left, freed_long, freed_meets, vertices_long, at_s, at_o, in_rings₁, in_turns₁, count₁, node_else, row_same, row_s}
 
-fill_itself : (n m x : ℕ) → n ≡ m → fill n m x ≡ x
+pub fill_itself : (n m x : ℕ) → n ≡ m → fill n m x ≡ x
 fill_itself n m x e = grind (arith, nat_tests)
 
 module _ (us : List Side) (vs : List Vertex) (nodes polygons z a : ℕ) (long : length us ≡ suc (suc (z + z))) (here : a < suc z)

@@ -1,6 +1,7 @@
 -- A map in which a ring is divided.
 use Rattle.std.proofs.Common.{◌≡◌, ℕ, suc, ◌+◌, ◌-◌, ◌/◌, ◌<◌, ◌≤◌, true, false, ◌&&◌, ltb, ◌⊎◌, List, ◌++◌, length, get_or, take, drop, Ok, Err, sym, refl, ap, ◌∙◌, subst, inl, inr, add-one, arith}
 use Rattle.std.proofs.lemmas.Bool.{and_parts, and_from, lt-ltb, cond-true}
+use Rattle.std.proofs.lemmas.List.{length-take-le, get_or-take}
 use Rattle.refusal.specs.declared.Refusal.TheVariants.{NoSuchElement, SidesInTwoRings, UnfitRun, RunEndsElsewhere, NoRoom}
 use Rattle.rings.specs.Circles.{one_if, ring, rings, meets}
 use Rattle.rings.specs.Law.{Ringed}
@@ -19,7 +20,6 @@ use Rattle.topology.specs.Lawfuls.{Lawful}
 use Rattle.topology.specs.Questions.{Rises}
 use Rattle.topology.specs.Islands.{arc_room, vertex_room}
 use Rattle.topology.specs.Divisions.{ring_told, linked, unturned_polygon, turned_polygon, divided_sides, fit_run, leads, divided, divide_outcome, RingDivided}
-use Rattle.topology.proofs.InUse.{in_use, long}
 use Rattle.topology.proofs.Growth.{held_used, grown_used}
 use Rattle.topology.proofs.Assembling.{lawful_at, lawful_of, state_from, room_told}
 use Rattle.topology.proofs.RingTold.{told_long, told_else}
@@ -101,10 +101,10 @@ module _ (m : Map) (first second : ℕ) (run : List Vertex) (named : ArcSide) (f
   linked_used = linked_long us first second (length vs) (length vs + (length run - 1))
 
   vertices_long : length vs ≡ m.vertices.used
-  vertices_long = long m.vertices.rows.now m.vertices.used m.vertices.fits
+  vertices_long = length-take-le m.vertices.used m.vertices.rows.now m.vertices.fits
 
   sides_long : n ≡ m.sides.used
-  sides_long = long m.sides.rows.now m.sides.used m.sides.fits
+  sides_long = length-take-le m.sides.used m.sides.rows.now m.sides.fits
 
   -- the tables as the code makes them, one after the other
   abbrev code_links : List Side
@@ -114,7 +114,7 @@ module _ (m : Map) (first second : ℕ) (run : List Vertex) (named : ArcSide) (f
   code_old = (get_or m.sides.rows.now first no_side).polygon
 
   same_old : code_old ≡ old
-  same_old = ap (λ (r : Side). r.polygon) (in_use m.sides.rows.now m.sides.used first no_side (omega (arith, sides_long, first_in)))
+  same_old = ap (λ (r : Side). r.polygon) (sym (get_or-take m.sides.used m.sides.rows.now first no_side (omega (arith, sides_long, first_in))))
 
   pub linked_held : (t : Table Side) → Holds m.sides t code_links → Holds m.sides t xs
   linked_held t h = subst (λ (k : ℕ). Holds m.sides t (linked us first second k (k + (length run - 1)))) (sym vertices_long) h

@@ -1,5 +1,7 @@
 -- What a chain over the sides with their numbers gives, in the words of the specs.
-use Rattle.std.proofs.Common.{◌≡◌, ℕ, suc, ◌+◌, ◌/◌, ◌<◌, Bool, true, false, cond, not, ◌&&◌, ◌||◌, eqb, List, [], ◌∷◌, ◌++◌, map, length, get_or, Some, sym, refl, ap, ◌∙◌, inl, inr, add-one, arith}
+use Rattle.std.proofs.Common.{◌≡◌, ℕ, suc, ◌+◌, ◌/◌, ◌<◌, Bool, cond, not, ◌&&◌, ◌||◌, eqb, List, [], ◌∷◌, ◌++◌, map, length, get_or, Some, sym, refl, ap, ◌∙◌, inl, inr, add-one, arith}
+use Rattle.std.proofs.Math.Bool.{or-false, or_assoc}
+use Rattle.std.proofs.Math.Nat.{zero-add}
 use Rattle.std.specs.List.{enumerate_from, filter, list_any, position_from}
 use Rattle.std.specs.Option.{unwrap_or}
 use Rattle.std.proofs.lemmas.Bool.{cases_Bool}
@@ -20,14 +22,6 @@ use Rattle.topology.specs.Dissolves.{in_either, first_from}
 -- a test of a side with its number is a test of the number alone
 abbrev Agree : (ℕ → Bool) → (ℕ × Side → Bool) → ℕ → List Side → Type 0
 Agree P T n xs = (i : ℕ) → i < length xs → P (n + i) ≡ T (n + i, get_or xs i no_side)
-
-or_false : (a : Bool) → (a || false) ≡ a
-or_false true = refl
-or_false false = refl
-
-or_assoc : (a b c : Bool) → ((a || b) || c) ≡ (a || (b || c))
-or_assoc true b c = refl
-or_assoc false b c = refl
 
 module _ (P : ℕ → Bool) (T : ℕ × Side → Bool) where
   here : (n : ℕ) (x : Side) (xs : List Side) → Agree P T n (x ∷ xs) → P n ≡ T (n, x)
@@ -61,7 +55,7 @@ module _ (P : ℕ → Bool) (T : ℕ × Side → Bool) where
 
   -- whether one passes, where A k says so of the numbers below k
   any_on : (A : ℕ → Bool) → ((k : ℕ) → A (suc k) ≡ (A k || P k)) → (n : ℕ) (xs : List Side) → Agree P T n xs → (A n || list_any T (enumerate_from n xs)) ≡ A (n + length xs)
-  any_on A step n [] h = or_false (A n) ∙ ap A (let e : n ≡ n + 0 = omega arith in e)
+  any_on A step n [] h = or-false (A n) ∙ ap A (let e : n ≡ n + 0 = omega arith in e)
   any_on A step n (x ∷ xs) h =
       ap (λ (b : Bool). A n || (b || list_any T (enumerate_from (n + 1) xs))) (sym (here n x xs h))
       ∙ (sym (or_assoc (A n) (P n) (list_any T (enumerate_from (n + 1) xs)))
@@ -92,11 +86,8 @@ numbered us a b e = YieldsList-from_enumerate (YieldsList-at b (YieldsList-from_
 abbrev pub is_start : ℕ × Side → Bool
 is_start p = eqb p.1.low p.0
 
-at_zero : (i : ℕ) → 0 + i ≡ i
-at_zero i = omega arith
-
 pub starts_listed : (us : List Side) → map (λ (p : ℕ × Side). p.0) (filter is_start (enumerate_from 0 us)) ≡ kept (tells us) (length us)
-starts_listed us = kept_on (tells us) is_start 0 us (λ i l. ap (λ (k : ℕ). eqb (low_of us k) k) (at_zero i) ∙ ap (λ (k : ℕ). eqb (low_of us i) k) (sym (at_zero i))) ∙ ap (kept (tells us)) (at_zero (length us))
+starts_listed us = kept_on (tells us) is_start 0 us (λ i l. ap (λ (k : ℕ). eqb (low_of us k) k) (zero-add i) ∙ ap (λ (k : ℕ). eqb (low_of us i) k) (sym (zero-add i))) ∙ ap (kept (tells us)) (zero-add (length us))
 
 -- a polygon and the lowest side of its ring
 abbrev pub told : ℕ × Side → ℕ × ℕ
@@ -124,18 +115,18 @@ polygons_listed us n (x ∷ xs) h =
     ]
 
 pub rings_listed : (us : List Side) → map told (filter is_start (enumerate_from 0 us)) ≡ map (named us) (kept (tells us) (length us))
-rings_listed us = polygons_listed us 0 us (λ i l. ap (polygon_of us) (at_zero i)) ∙ ap (map (named us)) (starts_listed us)
+rings_listed us = polygons_listed us 0 us (λ i l. ap (polygon_of us) (zero-add i)) ∙ ap (map (named us)) (starts_listed us)
 
 pub other_listed : (us : List Side) (a p q : ℕ) →
     list_any (λ (x : ℕ × Side). not (eqb (x.0 / 2) a) && (eqb x.1.polygon p || eqb x.1.polygon q)) (enumerate_from 0 us) ≡ other_under us a p q (length us)
 other_listed us a p q =
     let T : ℕ × Side → Bool = λ x. not (eqb (x.0 / 2) a) && (eqb x.1.polygon p || eqb x.1.polygon q) in
-    any_on (λ k. T (k, get_or us k no_side)) T (other_under us a p q) (λ k. refl) 0 us (λ i l. ap (λ (k : ℕ). T (0 + i, get_or us k no_side)) (at_zero i)) ∙ ap (other_under us a p q) (at_zero (length us))
+    any_on (λ k. T (k, get_or us k no_side)) T (other_under us a p q) (λ k. refl) 0 us (λ i l. ap (λ (k : ℕ). T (0 + i, get_or us k no_side)) (zero-add i)) ∙ ap (other_under us a p q) (zero-add (length us))
 
 pub first_listed : (us : List Side) (a : ℕ) →
     unwrap_or (position_from (λ (x : ℕ × Side). not (eqb (x.0 / 2) a) && (eqb x.1.low (low_of us (a + a)) || eqb x.1.low (low_of us (a + a + 1)))) 0 (enumerate_from 0 us)) (length us)
     ≡ first_from (in_either us a) 0 (length us)
 first_listed us a =
     let T : ℕ × Side → Bool = λ x. not (eqb (x.0 / 2) a) && (eqb x.1.low (low_of us (a + a)) || eqb x.1.low (low_of us (a + a + 1))) in
-    ap (unwrap_or (position_from T 0 (enumerate_from 0 us))) (sym (at_zero (length us)))
-    ∙ first_on (in_either us a) T 0 us (λ i l. ap (λ (k : ℕ). T (0 + i, get_or us k no_side)) (at_zero i))
+    ap (unwrap_or (position_from T 0 (enumerate_from 0 us))) (sym (zero-add (length us)))
+    ∙ first_on (in_either us a) T 0 us (λ i l. ap (λ (k : ℕ). T (0 + i, get_or us k no_side)) (zero-add i))

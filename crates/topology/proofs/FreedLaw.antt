@@ -1,6 +1,7 @@
 -- An arc that has left both its rings and has a node of its own: the law.
-use Rattle.std.proofs.Common.{◌≡◌, ℕ, zero, suc, ◌+◌, ◌/◌, ◌%◌, ◌<◌, ◌≤◌, Bool, true, false, cond, not, ◌&&◌, ◌||◌, eqb, leb, ◌⊎◌, List, map, length, get_or, set, sym, refl, ap, ◌∙◌, subst, inl, inr, arith}
-use Rattle.std.proofs.lemmas.Bool.{cases_eq, cases_Bool, eq-eqb, ne_eqb, eqb-true, and_parts, and_from, or_cases, or_left, or_right, or_from, not_from_true, not_from_false, cond-true, cond-false, both_ways}
+use Rattle.std.proofs.Common.{◌≡◌, ℕ, zero, suc, ◌+◌, ◌/◌, ◌%◌, ◌<◌, ◌≤◌, Bool, true, false, cond, not, ◌&&◌, ◌||◌, eqb, ◌⊎◌, List, map, length, get_or, set, sym, refl, ap, ◌∙◌, subst, inl, inr, arith, min}
+use Rattle.std.proofs.Math.Bool.{or-false}
+use Rattle.std.proofs.lemmas.Bool.{cases_eq, cases_lt, cases_Bool, eq-eqb, ne_eqb, eqb-true, and_parts, and_from, or_cases, or_left, or_right, or_from, not_from_true, not_from_false, cond-true, cond-false, both_ways}
 use Rattle.std.proofs.lemmas.List.{get_or-map, get_or-set_same, get_or-set_other, length-set, length-map}
 use Rattle.rings.specs.Circles.{occ, names, rings, meets}
 use Rattle.rings.specs.Law.{opp, turn, Ringed}
@@ -19,7 +20,6 @@ use Rattle.topology.specs.declared.merging.Merging.{Merging}
 use Rattle.topology.specs.Rows.{no_side, no_vertex, next_of, node_of, polygon_of, row_of, low_of, good, start_of}
 use Rattle.topology.specs.MapLaw.{PolygonsKnown, PolygonsHaveRings, EndsTogether, AllFinite, RunsStand, LowAlong, LowBelow, LowNames, OnePolygon, OneTurn, RingsClose}
 use Rattle.topology.specs.Lawfuls.{Lawful}
-use Rattle.topology.specs.Renumbered.{lower}
 use Rattle.topology.specs.Lifts.{closed_alone, ring_left, other_under}
 use Rattle.topology.specs.Merged.{merges, merged}
 use Rattle.topology.specs.Dissolves.{share_ring, both_alone, in_either, first_from, merging, alone_at, freed}
@@ -41,12 +41,6 @@ first_found P k (suc n) t l h p =
           let b = r.1 in
           (ap P w ∙ r.0, omega (arith, w, b))
     ]
-
-lower_either : (p q : ℕ) → (lower p q ≡ p) ⊎ (lower p q ≡ q)
-lower_either p q = elim (cases_Bool (leb p q)) [ inl e ↦ inl (cond-true (leb p q) p q e) | inr e ↦ inr (cond-false (leb p q) p q e) ]
-
-lower_low : (p q n : ℕ) → p < n → q < n → lower p q < n
-lower_low p q n lp lq = elim (lower_either p q) [ inl e ↦ omega arith | inr e ↦ omega arith ]
 
 -- a number is one of two, as each test tells it
 one_of_two : (k s o : ℕ) →
@@ -80,13 +74,9 @@ one_told k t s o x hk ht =
             | inl (a', b', e') ↦
                 let ne : k ≡ t → ⊥ = λ i. elim e' [ inl j ↦ ns (i ∙ j) | inr j ↦ nt (i ∙ j) ] in
                 rw (a, b, a') (ne_eqb k x (hk ns nt) ∙ sym (or_from (eqb k t) false (ne_eqb k t ne) refl))
-            | inr (a', b', ms, mt) ↦ rw (a, b, a') (or_false (eqb k t))
+            | inr (a', b', ms, mt) ↦ rw (a, b, a') (sym (or-false (eqb k t)))
           ]
     ]
-  where
-    or_false : (y : Bool) → y ≡ (y || false)
-    or_false true = refl
-    or_false false = refl
 
 module _ (us : List Side) (vs : List Vertex) (nodes polygons z a : ℕ) (long : length us ≡ suc (suc (z + z))) (here : a < suc z)
     (L : Lawful us vs (suc (suc (z + z))) nodes polygons) (apart : share_ring us a ≡ false) (some : both_alone us a ≡ false) where
@@ -329,19 +319,19 @@ module _ (us : List Side) (vs : List Vertex) (nodes polygons z a : ℕ) (long : 
   pub polygon_o : polygon_of us₁ o ≡ q
   polygon_o = ap (λ (r : Side). r.polygon) row_o
 
-  polygon_one : (k : ℕ) → k < N → (k ≡ s → ⊥) → (k ≡ o → ⊥) → (low k ≡ low s) ⊎ (low k ≡ low o) → polygon_of us₁ k ≡ lower p q
-  polygon_one k l ns nt e = ap (λ (r : Side). r.polygon) (row_else k l ns nt) ∙ cond-true (merges c (low k)) (lower p q) (polygon_of us k) (is_merged k e)
+  polygon_one : (k : ℕ) → k < N → (k ≡ s → ⊥) → (k ≡ o → ⊥) → (low k ≡ low s) ⊎ (low k ≡ low o) → polygon_of us₁ k ≡ min p q
+  polygon_one k l ns nt e = ap (λ (r : Side). r.polygon) (row_else k l ns nt) ∙ cond-true (merges c (low k)) (min p q) (polygon_of us k) (is_merged k e)
 
   polygon_else : (k : ℕ) → k < N → (k ≡ s → ⊥) → (k ≡ o → ⊥) → (low k ≡ low s → ⊥) → (low k ≡ low o → ⊥) → polygon_of us₁ k ≡ polygon_of us k
-  polygon_else k l ns nt ms mt = ap (λ (r : Side). r.polygon) (row_else k l ns nt) ∙ cond-false (merges c (low k)) (lower p q) (polygon_of us k) (not_merged k ms mt)
+  polygon_else k l ns nt ms mt = ap (λ (r : Side). r.polygon) (row_else k l ns nt) ∙ cond-false (merges c (low k)) (min p q) (polygon_of us k) (not_merged k ms mt)
 
   one_polygon₁ : OnePolygon us₁ N
   one_polygon₁ =
-      along_free f h N s o L.in_rings ls lo ne apart_f not_both at_s at_o at_else low (polygon_of us₁) (lower p q) L.low_along
+      along_free f h N s o L.in_rings ls lo ne apart_f not_both at_s at_o at_else low (polygon_of us₁) (min p q) L.low_along
       (λ k l ns nt ms mt.
       ap (λ (r : Side). r.polygon) (row_else (f k) (fc k l) ms mt)
-      ∙ (ap (λ (j : ℕ). cond (merges c j) (lower p q) (polygon_of us (f k))) (L.low_along k l)
-      ∙ (ap (λ (j : ℕ). cond (merges c (low k)) (lower p q) j) (L.one_polygon k l) ∙ sym (ap (λ (r : Side). r.polygon) (row_else k l ns nt)))))
+      ∙ (ap (λ (j : ℕ). cond (merges c j) (min p q) (polygon_of us (f k))) (L.low_along k l)
+      ∙ (ap (λ (j : ℕ). cond (merges c (low k)) (min p q) j) (L.one_polygon k l) ∙ sym (ap (λ (r : Side). r.polygon) (row_else k l ns nt)))))
       polygon_one
 
   p_low : p < polygons
@@ -353,7 +343,7 @@ module _ (us : List Side) (vs : List Vertex) (nodes polygons z a : ℕ) (long : 
   polygons_known₁ : PolygonsKnown us₁ N polygons
   polygons_known₁ =
       by_place (λ k. polygon_of us₁ k < polygons) (omega (arith, polygon_s, p_low)) (omega (arith, polygon_o, q_low))
-      (λ k l ns nt e. omega (arith, polygon_one k l ns nt e, lower_low p q polygons p_low q_low)) (λ k l ns nt ms mt. omega (arith, polygon_else k l ns nt ms mt, L.polygons_known k l))
+      (λ k l ns nt e. omega (arith, polygon_one k l ns nt e, p_low, q_low)) (λ k l ns nt ms mt. omega (arith, polygon_else k l ns nt ms mt, L.polygons_known k l))
 
   -- a ring has one polygon
   of_ring : (k t : ℕ) → k < N → t < N → low k ≡ low t → polygon_of us t ≡ polygon_of us k
@@ -455,12 +445,12 @@ module _ (us : List Side) (vs : List Vertex) (nodes polygons z a : ℕ) (long : 
       let i = polygon_one x x_low x_s x_o x_in in
       let p₁ = polygon_of us₁ s in
       let q₁ = polygon_of us₁ o in
-      or_right (eqb (lower p₁ q₁) 0) (other_under us₁ a p₁ q₁ (length us₁))
+      or_right (eqb (min p₁ q₁) 0) (other_under us₁ a p₁ q₁ (length us₁))
       (other_found us₁ a p₁ q₁ x (length us₁) (omega (arith, freed_long, x_low))
       (and_from (not (eqb (x / 2) a)) (eqb (polygon_of us₁ x) p₁ || eqb (polygon_of us₁ x) q₁) x_parts.0
-      (elim (lower_either p q) [
-        | inl e ↦ or_left (eqb (polygon_of us₁ x) p₁) (eqb (polygon_of us₁ x) q₁) (eq-eqb (polygon_of us₁ x) p₁ (i ∙ (e ∙ sym polygon_s)))
-        | inr e ↦ or_right (eqb (polygon_of us₁ x) p₁) (eqb (polygon_of us₁ x) q₁) (eq-eqb (polygon_of us₁ x) q₁ (i ∙ (e ∙ sym polygon_o)))
+      (elim (cases_lt q p) [
+        | inl l ↦ or_right (eqb (polygon_of us₁ x) p₁) (eqb (polygon_of us₁ x) q₁) (eq-eqb (polygon_of us₁ x) q₁ (omega (arith, i, polygon_o)))
+        | inr g ↦ or_left (eqb (polygon_of us₁ x) p₁) (eqb (polygon_of us₁ x) q₁) (eq-eqb (polygon_of us₁ x) p₁ (omega (arith, i, polygon_s)))
       ])))
 
   -- two sides of other arcs stand in one ring exactly if they did before, or if each stood in the ring of one of the arc's sides

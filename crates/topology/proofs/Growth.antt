@@ -1,12 +1,11 @@
 -- Rows added to a table, and rows changed.
 use Rattle.std.proofs.Common.{◌≡◌, ℕ, ◌+◌, ◌<◌, ◌≤◌, List, [], ◌∷◌, ◌++◌, map, length, get_or, take, drop, set, sym, refl, ap, ◌∙◌, subst, arith}
 use borrow.Rule.Slice.PartMut.{put_mid}
-use Rattle.std.proofs.lemmas.List.{length-append, length-take, length-drop, take_at, drop-drop, append_assoc, same_lists, places, get_or-set_same, get_or-set_other, get_or_default, length-set, drop_at, drop_more}
+use Rattle.std.proofs.lemmas.List.{length-append, length-take, length-drop, take_at, drop-drop, append_assoc, same_lists, places, get_or-set_same, get_or-set_other, get_or_default, length-set, drop_at, drop_more, length-take-le}
 use Rattle.std.proofs.lemmas.List.Elements.{all_zip_more}
 use Rattle.std.specs.List.{AllZip}
 use Rattle.topology.specs.declared.table.Table.{Table}
 use Rattle.topology.specs.Tables.{Holds, Grown}
-use Rattle.topology.proofs.InUse.{long}
 use Rattle.std.proofs.lemmas.Bool.{cases_eq}
 
 pub take_set : {X : Type 0} (xs : List X) (n : ℕ) (v : X) → n < length xs → take (n + 1) (set xs n v) ≡ take n xs ++ v ∷ []
@@ -33,10 +32,10 @@ module _ {X : Type 0} (xs ys zs : List X) (n k : ℕ) (e : ys ≡ zs) (f : k ≡
 
 -- how many rows are in use
 pub held_used : {T : Type 0} (t u : Table T) (xs : List T) → Holds t u xs → u.used ≡ length xs
-held_used t u xs h = sym (long u.rows.now u.used u.fits) ∙ ap length h.rows
+held_used t u xs h = sym (length-take-le u.used u.rows.now u.fits) ∙ ap length h.rows
 
 pub grown_used : {T : Type 0} (t u : Table T) (xs : List T) → Grown t u xs → u.used ≡ t.used + length xs
-grown_used t u xs g = held_used t u (take t.used t.rows.now ++ xs) g ∙ (length-append (take t.used t.rows.now) xs ∙ ap (λ (k : ℕ). k + length xs) (long t.rows.now t.used t.fits))
+grown_used t u xs g = held_used t u (take t.used t.rows.now ++ xs) g ∙ (length-append (take t.used t.rows.now) xs ∙ ap (λ (k : ℕ). k + length xs) (length-take-le t.used t.rows.now t.fits))
 
 -- one row more, and then another
 pub grown_twice : {T : Type 0} (t u w : Table T) (a b : T) → Grown t u (a ∷ []) → Grown u w (b ∷ []) → Grown t w (a ∷ b ∷ [])

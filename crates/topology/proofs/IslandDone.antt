@@ -1,5 +1,6 @@
 -- A map whose tables have grown by an island's rows.
 use Rattle.std.proofs.Common.{◌≡◌, ℕ, ◌+◌, ◌-◌, ◌<◌, ◌≤◌, true, ◌&&◌, List, [], ◌∷◌, ◌++◌, length, take, sym, ap, ◌∙◌, arith}
+use Rattle.std.proofs.lemmas.List.{length-take-le}
 use Rattle.topology.specs.declared.side.Side.{Side}
 use Rattle.topology.specs.declared.vertex.Vertex.{Vertex}
 use Rattle.topology.specs.declared.table.Table.{Table}
@@ -10,7 +11,6 @@ use Rattle.topology.specs.States.{state_of}
 use Rattle.topology.specs.Tables.{Grown}
 use Rattle.topology.specs.Lawfuls.{Lawful}
 use Rattle.topology.specs.Islands.{closed_run, arc_room, vertex_room, unturned, turned}
-use Rattle.topology.proofs.InUse.{long}
 use Rattle.topology.proofs.Growth.{grown_twice, grown_used}
 use Rattle.topology.proofs.Assembling.{lawful_at, lawful_of, room_told}
 use Rattle.topology.proofs.IslandLaw.{island_lawful, island_rings}
@@ -18,13 +18,13 @@ use Rattle.topology.proofs.IslandLaw.{island_lawful, island_rings}
 -- the rows of an island, as the code makes them
 unturned_row : (m : Map) → unturned m.sides.used m.nodes m.vertices.used m.polygons ≡ unturned (length (state_of m).sides) m.nodes (length (state_of m).vertices) m.polygons
 unturned_row m =
-    ap (λ (k : ℕ). unturned k m.nodes m.vertices.used m.polygons) (sym (long m.sides.rows.now m.sides.used m.sides.fits))
-    ∙ ap (λ (k : ℕ). unturned (length (state_of m).sides) m.nodes k m.polygons) (sym (long m.vertices.rows.now m.vertices.used m.vertices.fits))
+    ap (λ (k : ℕ). unturned k m.nodes m.vertices.used m.polygons) (sym (length-take-le m.sides.used m.sides.rows.now m.sides.fits))
+    ∙ ap (λ (k : ℕ). unturned (length (state_of m).sides) m.nodes k m.polygons) (sym (length-take-le m.vertices.used m.vertices.rows.now m.vertices.fits))
 
 turned_row : (m : Map) (k p : ℕ) → turned m.sides.used m.nodes (m.vertices.used + k) p ≡ turned (length (state_of m).sides) m.nodes (length (state_of m).vertices + k) p
 turned_row m k p =
-    ap (λ (j : ℕ). turned j m.nodes (m.vertices.used + k) p) (sym (long m.sides.rows.now m.sides.used m.sides.fits))
-    ∙ ap (λ (j : ℕ). turned (length (state_of m).sides) m.nodes (j + k) p) (sym (long m.vertices.rows.now m.vertices.used m.vertices.fits))
+    ap (λ (j : ℕ). turned j m.nodes (m.vertices.used + k) p) (sym (length-take-le m.sides.used m.sides.rows.now m.sides.fits))
+    ∙ ap (λ (j : ℕ). turned (length (state_of m).sides) m.nodes (j + k) p) (sym (length-take-le m.vertices.used m.vertices.rows.now m.vertices.fits))
 
 module _ (m : Map) (t s : Table Side) (v : Table Vertex) (p : ℕ) (run : List Vertex)
     (known : p < m.polygons) (fit : closed_run run ≡ true) (room : (arc_room (state_of m) && vertex_room (state_of m) (length run)) ≡ true)
@@ -52,10 +52,10 @@ module _ (m : Map) (t s : Table Side) (v : Table Vertex) (p : ℕ) (run : List V
   b' = turned (length us) m.nodes (length vs + (length run - 1)) p
 
   sides_long : length us ≡ m.sides.used
-  sides_long = long m.sides.rows.now m.sides.used m.sides.fits
+  sides_long = length-take-le m.sides.used m.sides.rows.now m.sides.fits
 
   vertices_long : length vs ≡ m.vertices.used
-  vertices_long = long m.vertices.rows.now m.vertices.used m.vertices.fits
+  vertices_long = length-take-le m.vertices.used m.vertices.rows.now m.vertices.fits
 
   sides_are : take s.used s.rows.now ≡ us ++ a' ∷ b' ∷ []
   sides_are = gs.rows ∙ ap (λ x. us ++ x ∷ b ∷ []) (unturned_row m) ∙ ap (λ x. us ++ a' ∷ x ∷ []) (turned_row m (length run - 1) p)
@@ -76,5 +76,5 @@ module _ (m : Map) (t s : Table Side) (v : Table Vertex) (p : ℕ) (run : List V
   -- two rings more
   pub island_more : length (rings (next_of (take s.used s.rows.now)) (length (take s.used s.rows.now))) ≡ length (rings (next_of us) (length us)) + 2
   island_more =
-      ap (λ (k : ℕ). length (rings (next_of (take s.used s.rows.now)) k)) (long s.rows.now s.used s.fits ∙ used_are)
+      ap (λ (k : ℕ). length (rings (next_of (take s.used s.rows.now)) k)) (length-take-le s.used s.rows.now s.fits ∙ used_are)
       ∙ (ap (λ (x : List Side). length (rings (next_of x) (length us + 2))) sides_are ∙ island_rings us vs run m.nodes m.polygons p (lawful_of m) known fit)

@@ -1,4 +1,3 @@
-pub mod InUse
 pub mod Enumerated
 pub mod Lowest
 pub mod Growth
@@ -16,6 +15,7 @@ pub mod IslandDone
 pub mod Turning
 pub mod Alone
 pub mod Shrinking
+pub mod TakenOut
 pub mod LiftDone
 pub mod LiftLaw
 pub mod LowestSides
@@ -29,3 +29,5 @@ pub mod FreedLaw
 pub mod DissolveLaw
 pub mod FreedRows
 pub mod DissolveDone
+pub mod JoinLaw
+pub mod JoinRuns

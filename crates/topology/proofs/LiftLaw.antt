@@ -1,11 +1,11 @@
 -- A lift keeps the law.
-use Rattle.std.proofs.Common.{◌≡◌, ℕ, suc, ◌+◌, ◌-◌, ◌*◌, ◌/◌, ◌%◌, ◌<◌, ◌≤◌, true, cond, eqb, ◌⊎◌, List, [], ◌∷◌, map, length, get_or, take, set, sym, refl, ap, ◌∙◌, subst, inl, inr, arith}
+use Rattle.std.proofs.Common.{◌≡◌, ℕ, suc, ◌+◌, ◌-◌, ◌*◌, ◌/◌, ◌%◌, ◌<◌, ◌≤◌, true, cond, eqb, ◌⊎◌, List, [], ◌∷◌, map, length, get_or, take, set, sym, refl, ap, ◌∙◌, subst, inl, inr, arith, min, max}
 use Rattle.std.proofs.lemmas.Bool.{ltb-true, cases_eq, cases_lt, eq-eqb, eqb-true, or_cases, cond-true}
 use Rattle.std.proofs.lemmas.Bool.Decides.{nat_tests}
 use Rattle.std.proofs.lemmas.List.{get_or-map, get_or-take, get_or-set_same, get_or-set_other, length-set, length-take-le, length-map}
 use Rattle.rings.specs.Circles.{one_if, occ, names, rings, ring, walk, meets}
 use Rattle.rings.specs.Law.{turn, Ringed, Closes, Along}
-use Rattle.rings.specs.Edits.{exchanged_arc, exchanged, fill}
+use Rattle.rings.specs.Edits.{swapped, exchanged, fill}
 use Rattle.rings.proofs.Ringed.{ringed_circles}
 use Rattle.rings.proofs.Closed.{within, one_image}
 use Rattle.rings.proofs.Occurs.{one_other, one_below, below_one}
@@ -15,14 +15,14 @@ use Rattle.rings.proofs.Surgery.{names_from}
 use Rattle.rings.proofs.Words.{node_low}
 use Rattle.rings.proofs.LastOut.{ringed_less, turned_less, count_less, along_less, names_less, closes_less, nodes_less, meets_less}
 use Rattle.rings.proofs.Labels.{names_comp, occ_image, fill_once, few_labels, few_but_zero, label_there, along_image}
-use Rattle.rings.proofs.Exchange.{exchanged_twice, exchanged_low, exchanged_unturned, exchanged_turned, exchanged_last_unturned, exchanged_last_turned, exchanged_else}
+use Rattle.rings.proofs.Exchange.{exchanged_twice, exchanged_low, exchanged_unturned, exchanged_turned, exchanged_last_unturned, exchanged_last_turned, exchanged_else, exchanged_even, exchanged_odd}
 use Rattle.topology.specs.declared.side.Side.{Side}
 use Rattle.topology.specs.declared.vertex.Vertex.{Vertex}
 use Rattle.topology.specs.declared.renumbering.Renumbering.{Renumbering}
 use Rattle.topology.specs.Rows.{no_side, no_vertex, next_of, node_of, polygon_of, row_of, low_of, start_of}
 use Rattle.topology.specs.MapLaw.{OnePolygon, OneTurn, PolygonsKnown, PolygonsHaveRings, EndsTogether, RunsStand, LowAlong, LowBelow, LowNames}
 use Rattle.topology.specs.Lawfuls.{Lawful}
-use Rattle.topology.specs.Renumbered.{lower, higher, polygon_filled, renumbered}
+use Rattle.topology.specs.Renumbered.{polygon_filled, renumbered}
 use Rattle.topology.specs.Lifts.{closed_alone, other_under, ring_left, lift_numbers, lifted_sides, polygons_left}
 use Rattle.topology.proofs.Alone.{alone_rings, other_at}
 
@@ -39,14 +39,14 @@ side_exchanged a z x n0 n1 =
           ]
     ]
 
-fill_apart : (gap top x y : ℕ) → (x ≡ gap → ⊥) → (y ≡ gap → ⊥) → fill gap top x ≡ fill gap top y → x ≡ y
+pub fill_apart : (gap top x y : ℕ) → (x ≡ gap → ⊥) → (y ≡ gap → ⊥) → fill gap top x ≡ fill gap top y → x ≡ y
 fill_apart gap top x y nx ny e = grind (arith, nat_tests)
 
 some_left : (p q polygons : ℕ) → p < polygons → q < polygons → 0 < cond (eqb p q) polygons (polygons - 1)
 some_left p q polygons lp lq = grind (arith, nat_tests)
 
 -- a circle of one member meets no other
-alone_meets : (f : ℕ → ℕ) (n x y : ℕ) → f x ≡ x → meets f (suc n) x y ≡ true → y ≡ x
+pub alone_meets : (f : ℕ → ℕ) (n x y : ℕ) → f x ≡ x → meets f (suc n) x y ≡ true → y ≡ x
 alone_meets f n x y e h =
     let w : ring f (suc n) x ≡ x ∷ [] = ap (λ (ys : List ℕ). x ∷ ys) (cond-true (eqb x (f x)) [] (f x ∷ walk f n x (f x)) (eq-eqb x (f x) (sym e))) in
     let o : 0 < occ y (x ∷ []) = subst (λ (ys : List ℕ). 0 < occ y ys) w (ltb-true 0 (occ y (ring f (suc n) x)) h) in
@@ -54,7 +54,7 @@ alone_meets f n x y e h =
 
 -- the lowest side of a ring, where the last arc takes side s
 abbrev lowered : ℕ → ℕ → ℕ → ℕ → ℕ
-lowered s x y l = cond (eqb l x) (lower x s) (cond (eqb l y) (lower y (s + 1)) l)
+lowered s x y l = cond (eqb l x) (min x s) (cond (eqb l y) (min y (s + 1)) l)
 
 lowered_low : (s x y l : ℕ) → l ≡ x → x < s → lowered s x y l ≡ l
 lowered_low s x y l e h = grind (arith, nat_tests)
@@ -82,52 +82,52 @@ lowered_below s x y l = grind (arith, nat_tests)
 
 -- the number of a polygon, where the higher of p and q goes: known, and where each number comes from
 abbrev after : ℕ → ℕ → ℕ → ℕ → ℕ
-after p q polygons x = fill (higher p q) (cond (eqb p q) p (polygons - 1)) (fill (lower p q) (higher p q) x)
+after p q polygons x = fill (max p q) (cond (eqb p q) p (polygons - 1)) (fill (min p q) (max p q) x)
 
 known_filled : (x p q polygons : ℕ) → x < polygons → p < polygons → q < polygons → after p q polygons x < cond (eqb p q) polygons (polygons - 1)
 known_filled x p q polygons lx lp lq = grind (arith, nat_tests)
 
 source_of : (u p q polygons : ℕ) → 0 < u → u < cond (eqb p q) polygons (polygons - 1) → p < polygons → q < polygons →
-    ((0 < lower p q) × ((x : ℕ) → (x ≡ p) ⊎ (x ≡ q) → after p q polygons x ≡ u))
+    ((0 < min p q) × ((x : ℕ) → (x ≡ p) ⊎ (x ≡ q) → after p q polygons x ≡ u))
     ⊎ ((x : ℕ) × ((0 < x) × (x < polygons) × (x ≡ p → ⊥) × (x ≡ q → ⊥)) × (after p q polygons x ≡ u))
 source_of u p q polygons l k lp lq =
-    elim (cases_eq u (lower p q)) [
+    elim (cases_eq u (min p q)) [
       | inl e ↦ inl (omega arith, λ x o. elim o [ inl i ↦ lower_first x i e | inr i ↦ lower_second x i e ])
       | inr n ↦
-          elim (cases_eq u (higher p q)) [
+          elim (cases_eq u (max p q)) [
             | inl e ↦ inr (polygons - 1, (top_first e n, omega arith, top_p e n, top_q e n), top_last e n)
             | inr n' ↦ inr (u, (l, low n n', not_p n n', not_q n n'), stay n n')
           ]
     ]
   where
-    lower_first : (x : ℕ) → x ≡ p → u ≡ lower p q → after p q polygons x ≡ u
+    lower_first : (x : ℕ) → x ≡ p → u ≡ min p q → after p q polygons x ≡ u
     lower_first x i e = grind (arith, nat_tests)
 
-    lower_second : (x : ℕ) → x ≡ q → u ≡ lower p q → after p q polygons x ≡ u
+    lower_second : (x : ℕ) → x ≡ q → u ≡ min p q → after p q polygons x ≡ u
     lower_second x i e = grind (arith, nat_tests)
 
-    top_first : u ≡ higher p q → (u ≡ lower p q → ⊥) → 0 < polygons - 1
+    top_first : u ≡ max p q → (u ≡ min p q → ⊥) → 0 < polygons - 1
     top_first e n = grind (arith, nat_tests)
 
-    top_p : u ≡ higher p q → (u ≡ lower p q → ⊥) → polygons - 1 ≡ p → ⊥
+    top_p : u ≡ max p q → (u ≡ min p q → ⊥) → polygons - 1 ≡ p → ⊥
     top_p e n i = grind (arith, nat_tests)
 
-    top_q : u ≡ higher p q → (u ≡ lower p q → ⊥) → polygons - 1 ≡ q → ⊥
+    top_q : u ≡ max p q → (u ≡ min p q → ⊥) → polygons - 1 ≡ q → ⊥
     top_q e n i = grind (arith, nat_tests)
 
-    top_last : u ≡ higher p q → (u ≡ lower p q → ⊥) → after p q polygons (polygons - 1) ≡ u
+    top_last : u ≡ max p q → (u ≡ min p q → ⊥) → after p q polygons (polygons - 1) ≡ u
     top_last e n = grind (arith, nat_tests)
 
-    low : (u ≡ lower p q → ⊥) → (u ≡ higher p q → ⊥) → u < polygons
+    low : (u ≡ min p q → ⊥) → (u ≡ max p q → ⊥) → u < polygons
     low n n' = grind (arith, nat_tests)
 
-    not_p : (u ≡ lower p q → ⊥) → (u ≡ higher p q → ⊥) → u ≡ p → ⊥
+    not_p : (u ≡ min p q → ⊥) → (u ≡ max p q → ⊥) → u ≡ p → ⊥
     not_p n n' i = grind (arith, nat_tests)
 
-    not_q : (u ≡ lower p q → ⊥) → (u ≡ higher p q → ⊥) → u ≡ q → ⊥
+    not_q : (u ≡ min p q → ⊥) → (u ≡ max p q → ⊥) → u ≡ q → ⊥
     not_q n n' i = grind (arith, nat_tests)
 
-    stay : (u ≡ lower p q → ⊥) → (u ≡ higher p q → ⊥) → after p q polygons u ≡ u
+    stay : (u ≡ min p q → ⊥) → (u ≡ max p q → ⊥) → after p q polygons u ≡ u
     stay n n' = grind (arith, nat_tests)
 
 -- two rows fewer
@@ -340,10 +340,10 @@ module _ (us : List Side) (vs : List Vertex) (nodes polygons z a : ℕ) (long : 
       (label_there g (λ k. polygon_of us (σ k)) m in_rings' (moved_along (polygon_of us) L.one_polygon) (σ s) lk)
 
   -- the polygon that stays is 0 or has a ring left
-  stays : 0 < lower p q → (x : ℕ) × ((x ≡ p) ⊎ (x ≡ q)) × (0 < occ x (names (λ k. polygon_of us (σ k)) (rings g m)))
+  stays : 0 < min p q → (x : ℕ) × ((x ≡ p) ⊎ (x ≡ q)) × (0 < occ x (names (λ k. polygon_of us (σ k)) (rings g m)))
   stays l =
-      elim (or_cases (eqb (lower p q) 0) (other_under us a p q (length us)) left) [
-        | inl t ↦ absurd (let w = eqb-true (lower p q) 0 t in omega arith)
+      elim (or_cases (eqb (min p q) 0) (other_under us a p q (length us)) left) [
+        | inl t ↦ absurd (let w = eqb-true (min p q) 0 t in omega arith)
         | inr t ↦
             let r = other_at us a p q (length us) t in
             let b = r.below in
@@ -363,7 +363,7 @@ module _ (us : List Side) (vs : List Vertex) (nodes polygons z a : ℕ) (long : 
   -- ---- vertices
 
   -- no side that is left begins at the node that goes
-  own_node : (s : ℕ) → s < m → node_of us (σ s) ≡ v → ⊥
+  pub own_node : (s : ℕ) → s < m → node_of us (σ s) ≡ v → ⊥
   own_node s l e =
       let (n0, n1) = not_gone s l in
       elim (alone_own f (node_of us) N nodes a (omega arith) L.in_turns L.rings_close L.one_turn e0 e1 (σ s) (σ-low s (omega arith)) e) [ inl i ↦ n0 i | inr i ↦ n1 i ]
@@ -382,19 +382,13 @@ module _ (us : List Side) (vs : List Vertex) (nodes polygons z a : ℕ) (long : 
 
   runs_stand' : RunsStand us' vs m
   runs_stand' k l =
-      let b = exchanged_arc a z k in
-      let x : σ (k + k) ≡ b + b = σ-even k in
-      let y : σ (k + k + 1) ≡ b + b + 1 = σ-odd k in
+      let b = swapped a z k in
+      let x : σ (k + k) ≡ b + b = exchanged_even a z k in
+      let y : σ (k + k + 1) ≡ b + b + 1 = exchanged_odd a z k in
       let r = L.runs_stand b (omega (arith, y, σ-low (k + k + 1) (omega arith))) in
       let i : row_of us' (k + k) ≡ row_of us (b + b) = ap (λ (s : Side). s.row) (row_is (k + k) (omega arith)) ∙ ap (row_of us) x in
       let j : row_of us' (k + k + 1) ≡ row_of us (b + b + 1) = ap (λ (s : Side). s.row) (row_is (k + k + 1) l) ∙ ap (row_of us) y in
       (omega (arith, r.0, i, j), omega (arith, r.1, j))
-    where
-      σ-even : (k : ℕ) → exchanged a z (k + k) ≡ exchanged_arc a z k + exchanged_arc a z k
-      σ-even k = let d : (k + k) / 2 ≡ k = omega arith in ap (λ (j : ℕ). 2 * exchanged_arc a z j + (k + k) % 2) d ∙ omega arith
-
-      σ-odd : (k : ℕ) → exchanged a z (k + k + 1) ≡ exchanged_arc a z k + exchanged_arc a z k + 1
-      σ-odd k = let d : (k + k + 1) / 2 ≡ k = omega arith in ap (λ (j : ℕ). 2 * exchanged_arc a z j + (k + k + 1) % 2) d ∙ omega arith
 
   -- ---- the lowest sides
 

@@ -5,7 +5,6 @@ use Rattle.std.proofs.lemmas.List.{length-set, get_or-set_same, get_or-set_other
 use Rattle.topology.specs.declared.side.Side.{Side}
 use Rattle.topology.specs.Rows.{no_side, next_of}
 use Rattle.topology.specs.Divisions.{relinked, unturned_to, turned_to, linked}
-use Rattle.topology.proofs.InUse.{in_use, long}
 
 -- a side that leads elsewhere
 abbrev leading : ℕ → Side → Side
@@ -39,7 +38,7 @@ module _ (full : List Side) (n p q first second row last on : ℕ) (fit : n + 2 
   r2 = set r1 p (leading n (get_or r1 p no_side))
 
   us_long : length us ≡ n
-  us_long = long full n (omega arith)
+  us_long = length-take-le n full (omega arith)
 
   size1 : length r1 ≡ length full
   size1 = length-set full q (leading (n + 1) (get_or full q no_side))
@@ -76,7 +75,7 @@ module _ (full : List Side) (n p q first second row last on : ℕ) (fit : n + 2 
 
   to_is : (k v : ℕ) → k < n → v ≡ to k → leading v (get_or full k no_side) ≡ relinked (length us) first second (get_or us k no_side)
   to_is k v l e =
-      ap (λ (r : Side). leading v r) (in_use full n k no_side l)
+      ap (λ (r : Side). leading v r) (sym (get_or-take n full k no_side l))
       ∙ (ap (λ (j : ℕ). leading j (get_or us k no_side)) e ∙ ap (λ (j : ℕ). relinked j first second (get_or us k no_side)) (sym us_long))
 
   old : (k : ℕ) → k < n → get_or r2 k no_side ≡ relinked (length us) first second (get_or us k no_side)
@@ -97,18 +96,18 @@ module _ (full : List Side) (n p q first second row last on : ℕ) (fit : n + 2 
                   ∙ to_is k (n + 1) l (sym (z ∙ cond-true (eqb (f k) second) (n + 1) (f k) (eq-eqb (f k) second (ap f e ∙ fq))))))
               | inr nq ↦
                   at_else k np nq
-                  ∙ (ap (λ (v : ℕ). leading v (get_or full k no_side)) (ap (λ (r : Side). r.next) (in_use full n k no_side l))
+                  ∙ (ap (λ (v : ℕ). leading v (get_or full k no_side)) (ap (λ (r : Side). r.next) (sym (get_or-take n full k no_side l)))
                   ∙ to_is k (f k) l (sym (z ∙ cond-false (eqb (f k) second) (n + 1) (f k) (ne_eqb (f k) second (λ e. nq (one k q l lq (e ∙ sym fq)))))))
             ]
       ]
 
   A_is : A ≡ unturned_to us first second row
-  A_is = ap (λ (r : Side). record { node = r.node; row = row; polygon = r.polygon; next = second; low = r.low }) (in_use full n first no_side lf)
+  A_is = ap (λ (r : Side). record { node = r.node; row = row; polygon = r.polygon; next = second; low = r.low }) (sym (get_or-take n full first no_side lf))
 
   B_is : B ≡ turned_to us first second last
   B_is =
-      ap (λ (r : Side). record { node = r.node; row = last; polygon = near.polygon; next = on; low = near.low }) (in_use full n second no_side ls)
-      ∙ (ap (λ (r : Side). record { node = (get_or us second no_side).node; row = last; polygon = r.polygon; next = on; low = r.low }) (in_use full n first no_side lf)
+      ap (λ (r : Side). record { node = r.node; row = last; polygon = near.polygon; next = on; low = near.low }) (sym (get_or-take n full second no_side ls))
+      ∙ (ap (λ (r : Side). record { node = (get_or us second no_side).node; row = last; polygon = r.polygon; next = on; low = r.low }) (sym (get_or-take n full first no_side lf))
       ∙ ap (λ (v : ℕ). record { node = (get_or us second no_side).node; row = last; polygon = (get_or us first no_side).polygon; next = v; low = (get_or us first no_side).low })
       (turns ∙ ap (λ (j : ℕ). cond (eqb first second) (j + 1) first) (sym us_long)))
 

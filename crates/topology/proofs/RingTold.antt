@@ -1,14 +1,13 @@
 -- The sides of a ring told their polygon and lowest side, field by field.
-use Rattle.std.proofs.Common.{◌≡◌, ℕ, ◌<◌, ◌≤◌, Bool, true, false, cond, eqb, leb, ◌⊎◌, List, [], ◌∷◌, length, get_or, sym, refl, ap, ◌∙◌, inl, inr, arith}
+use Rattle.std.proofs.Common.{◌≡◌, ℕ, ◌<◌, ◌≤◌, Bool, true, false, cond, eqb, List, [], ◌∷◌, length, get_or, sym, refl, ap, ◌∙◌, inl, inr, arith, min}
 use mathlib.Core.Path.{fun_ext}
-use Rattle.std.proofs.lemmas.Bool.{cases_eq, cases_lt, cond-true, cond-false, le-leb, lt-leb}
+use Rattle.std.proofs.lemmas.Bool.{cases_eq, cases_lt}
 use Rattle.std.proofs.lemmas.List.{get_or_past}
 use Rattle.std.proofs.lemmas.List.FromFn.{length-map-range_with_len, get_or-map-range_with_len}
 use Rattle.rings.specs.Circles.{one_if, occ, meets}
 use Rattle.rings.proofs.Occurs.{one_same, one_other}
 use Rattle.topology.specs.declared.side.Side.{Side}
 use Rattle.topology.specs.Rows.{no_side, next_of, polygon_of, low_of}
-use Rattle.topology.specs.Renumbered.{lower}
 use Rattle.topology.specs.Divisions.{lowest_of, ring_low, told_side, told_at, ring_told}
 use Rattle.topology.proofs.Appended.{field}
 
@@ -52,31 +51,26 @@ module _ (us : List Side) (s polygon : ℕ) where
       ])
 
 -- the lowest of a number and those of a list is at most each, and one of them
-lower_is : (x y : ℕ) → ((lower x y ≡ x) × (x ≤ y)) ⊎ ((lower x y ≡ y) × (y < x))
-lower_is x y = elim (cases_lt y x) [ inl l ↦ inr (cond-false (leb x y) x y (lt-leb x y l), l) | inr g ↦ inl (cond-true (leb x y) x y (le-leb x y g), g) ]
-
 pub lowest_first : (x : ℕ) (ys : List ℕ) → lowest_of x ys ≤ x
 lowest_first x [] = omega arith
 lowest_first x (y ∷ ys) =
-    let h = lowest_first (lower x y) ys in
-    elim (lower_is x y) [ inl w ↦ let e = w.0 in omega arith | inr w ↦ let e = w.0 in let l = w.1 in omega arith ]
+    let h = lowest_first (min x y) ys in omega arith
 
 pub lowest_other : (x k : ℕ) (ys : List ℕ) → 0 < occ k ys → lowest_of x ys ≤ k
 lowest_other x k [] h = absurd (omega arith)
 lowest_other x k (y ∷ ys) h =
     elim (cases_eq k y) [
       | inl e ↦
-          let f = lowest_first (lower x y) ys in
-          elim (lower_is x y) [ inl w ↦ let i = w.0 in let l = w.1 in omega arith | inr w ↦ let i = w.0 in omega arith ]
-      | inr ne ↦ lowest_other (lower x y) k ys (omega (arith, one_other k y ne))
+          let f = lowest_first (min x y) ys in omega arith
+      | inr ne ↦ lowest_other (min x y) k ys (omega (arith, one_other k y ne))
     ]
 
 pub lowest_there : (x : ℕ) (ys : List ℕ) → 0 < occ (lowest_of x ys) (x ∷ ys)
 lowest_there x [] = omega (arith, one_same x)
 lowest_there x (y ∷ ys) =
-    let h = lowest_there (lower x y) ys in
-    let v = lowest_of (lower x y) ys in
-    elim (lower_is x y) [
-      | inl w ↦ let i = ap (λ (j : ℕ). one_if (eqb v j)) w.0 in omega arith
-      | inr w ↦ let i = ap (λ (j : ℕ). one_if (eqb v j)) w.0 in omega arith
+    let h = lowest_there (min x y) ys in
+    let v = lowest_of (min x y) ys in
+    elim (cases_lt y x) [
+      | inl l ↦ let i = ap (λ (j : ℕ). one_if (eqb v j)) (let e : min x y ≡ y = omega arith in e) in omega arith
+      | inr g ↦ let i = ap (λ (j : ℕ). one_if (eqb v j)) (let e : min x y ≡ x = omega arith in e) in omega arith
     ]

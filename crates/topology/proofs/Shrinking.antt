@@ -8,7 +8,6 @@ use Rattle.std.proofs.lemmas.List.{length-take-le, length-set, length-map, same_
 use Rattle.topology.specs.declared.side.Side.{Side}
 use Rattle.topology.specs.Rows.{no_side}
 use Rattle.topology.specs.Lifts.{rows_without}
-use Rattle.topology.proofs.InUse.{in_use, long}
 use Rattle.topology.specs.declared.table.Table.{Table}
 use Rattle.topology.specs.Tables.{Holds}
 use Rattle.topology.proofs.Growth.{front_new, front_rest, front_long, held_used}
@@ -23,7 +22,7 @@ rows_left us a =
 pub removed_used : (F : Side → Side) (t s : Table Side) (a : ℕ) → Holds t s (map F (rows_without (take t.used t.rows.now) a)) → s.used ≡ t.used - 2
 removed_used F t s a h =
     let us = take t.used t.rows.now in
-    held_used t s (map F (rows_without us a)) h ∙ (length-map (rows_without us a) F ∙ (rows_left us a ∙ ap (λ (k : ℕ). k - 2) (long t.rows.now t.used t.fits)))
+    held_used t s (map F (rows_without us a)) h ∙ (length-map (rows_without us a) F ∙ (rows_left us a ∙ ap (λ (k : ℕ). k - 2) (length-take-le t.used t.rows.now t.fits)))
 
 -- two rows set, in lists that agree at k
 two_set : (b d : List Side) (s k : ℕ) (u v e : Side) → s + 1 < length b → s + 1 < length d → get_or b k e ≡ get_or d k e →
@@ -62,21 +61,21 @@ module _ (full : List Side) (n a : ℕ) (here : a + a + 1 < n) (even : n % 2 ≡
   take_sets u v =
       let A = set (set full (a + a) u) (a + a + 1) v in
       let B = set (set (take n full) (a + a) u) (a + a + 1) v in
-      let l = long full n fit in
+      let l = length-take-le n full fit in
       let la : length A ≡ length full = length-set (set full (a + a) u) (a + a + 1) v ∙ length-set full (a + a) u in
       let lb : length B ≡ n = length-set (set (take n full) (a + a) u) (a + a + 1) v ∙ (length-set (take n full) (a + a) u ∙ l) in
       same_lists _ _ (length-take-le (n - 2) A (omega arith) ∙ sym (length-take-le (n - 2) B (omega arith)))
       (λ k d p.
       let q : k < n - 2 = omega (arith, p, length-take-le (n - 2) A (omega arith)) in
       get_or-take (n - 2) A k d q
-      ∙ (two_set full (take n full) (a + a) k u v d (omega arith) (omega arith) (in_use full n k d (omega arith)) ∙ sym (get_or-take (n - 2) B k d q)))
+      ∙ (two_set full (take n full) (a + a) k u v d (omega arith) (omega arith) (sym (get_or-take n full k d (omega arith))) ∙ sym (get_or-take (n - 2) B k d q)))
 
   same_rows : take (n - 2) xs ≡ rows_without (take n full) a
   same_rows =
       take_sets x y
-      ∙ (ap (λ (r : Side). take (n - 2) (set (set (take n full) (a + a) r) (a + a + 1) y)) (in_use full n (n - 2) no_side (omega arith))
-      ∙ (ap (λ (r : Side). take (n - 2) (set (set (take n full) (a + a) (get_or (take n full) (n - 2) no_side)) (a + a + 1) r)) (in_use full n (n - 1) no_side (omega arith))
-      ∙ ap (λ (j : ℕ). take (j - 2) (set (set (take n full) (a + a) (get_or (take n full) (j - 2) no_side)) (a + a + 1) (get_or (take n full) (j - 1) no_side))) (sym (long full n fit))))
+      ∙ (ap (λ (r : Side). take (n - 2) (set (set (take n full) (a + a) r) (a + a + 1) y)) (sym (get_or-take n full (n - 2) no_side (omega arith)))
+      ∙ (ap (λ (r : Side). take (n - 2) (set (set (take n full) (a + a) (get_or (take n full) (n - 2) no_side)) (a + a + 1) r)) (sym (get_or-take n full (n - 1) no_side (omega arith)))
+      ∙ ap (λ (j : ℕ). take (j - 2) (set (set (take n full) (a + a) (get_or (take n full) (j - 2) no_side)) (a + a + 1) (get_or (take n full) (j - 1) no_side))) (sym (length-take-le n full fit))))
 
   same_rest : drop (n - 2) xs ≡ drop (n - 2) full
   same_rest =

@@ -1,7 +1,7 @@
 -- A map whose tables hold a parted arc.
 use Rattle.std.proofs.Common.{◌≡◌, ℕ, ◌+◌, ◌-◌, ◌<◌, ◌≤◌, true, ◌&&◌, ltb, List, [], ◌∷◌, ◌++◌, length, get_or, take, Ok, Err, sym, refl, ap, ◌∙◌, arith}
 use Rattle.std.proofs.lemmas.Bool.{and_parts, ltb-true, lt-ltb, cond-true}
-use Rattle.std.proofs.lemmas.List.{length-append, length-set, length-map}
+use Rattle.std.proofs.lemmas.List.{length-append, length-set, length-map, length-take-le, get_or-take}
 use Rattle.refusal.specs.declared.Refusal.TheVariants.{NoSuchElement, NotInsideArc, NoRoom}
 use Rattle.rings.specs.LetIn.{let_in, split_after}
 use Rattle.rings.proofs.SplitRings.{some_before}
@@ -16,7 +16,6 @@ use Rattle.topology.specs.Lawfuls.{Lawful}
 use Rattle.topology.specs.Questions.{arc_count, rings_of}
 use Rattle.topology.specs.Islands.{arc_room, vertex_room}
 use Rattle.topology.specs.Splits.{inside, split_sides, split, split_outcome, Parts}
-use Rattle.topology.proofs.InUse.{in_use, long}
 use Rattle.topology.proofs.Growth.{held_used, grown_used}
 use Rattle.topology.proofs.Assembling.{lawful_at, lawful_of, state_from, room_told}
 use Rattle.topology.proofs.SplitLaw.{split_lawful, rings_after, new_turn_after, turns_after, ends_after, front_after, back_after, others_after}
@@ -37,10 +36,10 @@ module _ (m : Map) (a k : ℕ) (here : a < arc_count (state_of m)) (ins : inside
   row = row_of us (a + a) + k
 
   sides_long : length us ≡ m.sides.used
-  sides_long = long m.sides.rows.now m.sides.used m.sides.fits
+  sides_long = length-take-le m.sides.used m.sides.rows.now m.sides.fits
 
   vertices_long : length vs ≡ m.vertices.used
-  vertices_long = long m.vertices.rows.now m.vertices.used m.vertices.fits
+  vertices_long = length-take-le m.vertices.used m.vertices.rows.now m.vertices.fits
 
   L : Lawful us vs (length us) m.nodes m.polygons
   L = lawful_of m
@@ -60,14 +59,14 @@ module _ (m : Map) (a k : ℕ) (here : a < arc_count (state_of m)) (ins : inside
   in_table = omega (arith, before_last, (L.runs_stand a both_sides).1)
 
   pub row_read : (get_or m.sides.rows.now (a + a) no_side).row + k ≡ row
-  row_read = ap (λ (r : Side). r.row + k) (in_use m.sides.rows.now m.sides.used (a + a) no_side (omega (arith, both_sides, sides_long)))
+  row_read = ap (λ (r : Side). r.row + k) (sym (get_or-take m.sides.used m.sides.rows.now (a + a) no_side (omega (arith, both_sides, sides_long))))
 
   pub row_low : ((get_or m.sides.rows.now (a + a) no_side).row + k < m.vertices.used) × (m.vertices.used ≤ length m.vertices.rows.now) × (m.vertices.used ≤ 1048576)
   row_low = (omega (arith, row_read, in_table, vertices_long), m.vertices.fits, m.vertices_few)
 
   pub vertex_read : get_or m.vertices.rows.now ((get_or m.sides.rows.now (a + a) no_side).row + k) no_vertex ≡ get_or vs row no_vertex
   vertex_read =
-      in_use m.vertices.rows.now m.vertices.used ((get_or m.sides.rows.now (a + a) no_side).row + k) no_vertex row_low.0
+      sym (get_or-take m.vertices.used m.vertices.rows.now ((get_or m.sides.rows.now (a + a) no_side).row + k) no_vertex row_low.0)
       ∙ ap (λ (i : ℕ). get_or vs i no_vertex) row_read
 
   before_turned : (p : ℕ) × (p < length us) × (next_of us p ≡ a + a + 1)

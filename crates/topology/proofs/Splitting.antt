@@ -2,7 +2,7 @@
 use Rattle.std.proofs.Common.{◌≡◌, ℕ, ◌+◌, ◌<◌, ◌≤◌, eqb, List, [], ◌∷◌, ◌++◌, length, get_or, take, drop, set, sym, ap, ◌∙◌, inl, inr, arith}
 use lib.Seq.{take-set-lt}
 use Rattle.std.proofs.lemmas.Bool.{cases_eq, cond-true, cond-false, eq-eqb, ne_eqb}
-use Rattle.std.proofs.lemmas.List.{get_or-set_same, get_or-set_other, length-set, length-map, same_lists, drop-set-lt, get_or_default}
+use Rattle.std.proofs.lemmas.List.{get_or-set_same, get_or-set_other, length-set, length-map, same_lists, drop-set-lt, get_or_default, length-take-le, get_or-take}
 use Rattle.rings.specs.Circles.{rings}
 use Rattle.rings.proofs.Ringed.{ringed_circles}
 use Rattle.rings.proofs.Closed.{one_image}
@@ -10,7 +10,6 @@ use Rattle.topology.specs.declared.side.Side.{Side}
 use Rattle.topology.specs.Rows.{no_side, next_of}
 use Rattle.topology.specs.MapLaw.{InRings}
 use Rattle.topology.specs.Splits.{leading, beginning, led, rows_led, split_sides}
-use Rattle.topology.proofs.InUse.{in_use, long}
 use Rattle.topology.proofs.SplitRows.{led_at}
 
 module _ (full : List Side) (n a node row p : ℕ) (fit : n ≤ length full) (here : a + a + 1 < n) (ringed : InRings (take n full) n) (lp : p < n)
@@ -25,7 +24,7 @@ module _ (full : List Side) (n a node row p : ℕ) (fit : n ≤ length full) (he
   o = a + a + 1
 
   us_long : length us ≡ n
-  us_long = long full n fit
+  us_long = length-take-le n full fit
 
   only : (x : ℕ) → x < length us → next_of us x ≡ o → x ≡ p
   only x l i = one_image (next_of us) n (rings (next_of us) n) (ringed_circles (next_of us) n ringed) x p (omega (arith, us_long)) lp (i ∙ sym leads)
@@ -42,7 +41,7 @@ module _ (full : List Side) (n a node row p : ℕ) (fit : n ≤ length full) (he
 
   at_p : leading (n + 1) (get_or full p no_side) ≡ R p
   at_p =
-      ap (leading (n + 1)) (in_use full n p no_side lp)
+      ap (leading (n + 1)) (sym (get_or-take n full p no_side lp))
       ∙ (ap (λ (m : ℕ). leading (m + 1) (get_or us p no_side)) (sym us_long)
       ∙ ap (λ (m : ℕ). leading m (get_or us p no_side)) (sym (cond-true (eqb (next_of us p) o) (length us + 1) (next_of us p) (eq-eqb (next_of us p) o leads))))
 
@@ -78,7 +77,7 @@ module _ (full : List Side) (n a node row p : ℕ) (fit : n ≤ length full) (he
   three = set two o (beginning node row (get_or two o no_side))
 
   at_one : (k : ℕ) → k < n → get_or one k no_side ≡ get_or (rows_led us a) k no_side
-  at_one k l = in_use one n k no_side l ∙ ap (λ (xs : List Side). get_or xs k no_side) one_is
+  at_one k l = sym (get_or-take n one k no_side l) ∙ ap (λ (xs : List Side). get_or xs k no_side) one_is
 
   at_two : get_or two o no_side ≡ get_or (rows_led us a) o no_side
   at_two = get_or-set_other one s o (leading n (get_or one s no_side)) no_side (omega arith) ∙ at_one o here
@@ -97,7 +96,7 @@ module _ (full : List Side) (n a node row p : ℕ) (fit : n ≤ length full) (he
   rows_pushed =
       ap (λ (xs : List Side). xs ++ first ∷ last ∷ []) three_is
       ∙ (ap (λ (r : Side). set (set (rows_led us a) s (leading (length us) (get_or (rows_led us a) s no_side))) o (beginning node row (get_or (rows_led us a) o no_side)) ++ beginning node row r ∷ last ∷ []) (at_one s (omega arith))
-      ∙ ap (λ (r : Side). set (set (rows_led us a) s (leading (length us) (get_or (rows_led us a) s no_side))) o (beginning node row (get_or (rows_led us a) o no_side)) ++ beginning node row (get_or (rows_led us a) s no_side) ∷ leading o r ∷ []) (in_use full n o no_side here))
+      ∙ ap (λ (r : Side). set (set (rows_led us a) s (leading (length us) (get_or (rows_led us a) s no_side))) o (beginning node row (get_or (rows_led us a) o no_side)) ++ beginning node row (get_or (rows_led us a) s no_side) ∷ leading o r ∷ []) (sym (get_or-take n full o no_side here)))
 
   pub rest_kept : (m : ℕ) → n ≤ m → drop m three ≡ drop m full
   rest_kept m l =

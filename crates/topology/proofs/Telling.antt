@@ -2,7 +2,6 @@
 use Rattle.std.proofs.Common.{◌≡◌, ℕ, suc, ◌+◌, ◌-◌, ◌<◌, ◌≤◌, Bool, true, false, cond, List, map, length, get_or, set, sym, refl, ap, ◌∙◌, subst, inl, inr, min, arith}
 use Rattle.std.specs.List.{range_with_len}
 use Rattle.std.proofs.lemmas.Bool.{cases_eq}
-use Rattle.std.proofs.lemmas.Bool.Decides.{nat_tests}
 use Rattle.std.proofs.lemmas.List.{length-set, get_or-set_same, get_or-set_other}
 use Rattle.std.proofs.lemmas.List.FromFn.{fill_by_all}
 use Rattle.rings.specs.Circles.{walk, ahead, rings}
@@ -13,15 +12,11 @@ use Rattle.rings.proofs.Closed.{within}
 use Rattle.rings.proofs.Ringed.{ringed_circles}
 use Rattle.topology.specs.declared.side.Side.{Side}
 use Rattle.topology.specs.Rows.{no_side, next_of}
-use Rattle.topology.specs.Renumbered.{lower}
 use Rattle.topology.specs.Divisions.{lowest_of, told_side, told_at}
 
 -- ---- the lowest side
 
-pub min_lower : (x y : ℕ) → min x y ≡ lower x y
-min_lower x y = grind (arith, nat_tests)
-
-pub lowest_on : (f : ℕ → ℕ) (fuel m s p low : ℕ) → fuel ≡ suc m → (f p ≡ s → ⊥) → lowest_of low (walk f fuel s p) ≡ lowest_of (lower low (f p)) (walk f m s (f p))
+pub lowest_on : (f : ℕ → ℕ) (fuel m s p low : ℕ) → fuel ≡ suc m → (f p ≡ s → ⊥) → lowest_of low (walk f fuel s p) ≡ lowest_of (min low (f p)) (walk f m s (f p))
 lowest_on f fuel m s p low e ne = ap (lowest_of low) (walk_on f fuel m s p e ne)
 
 -- ---- what a ring is told

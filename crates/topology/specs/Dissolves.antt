@@ -1,5 +1,5 @@
 -- Dissolve: an arc goes, and the two rings of its sides become one.
-use Rattle.std.specs.Prelude.{◌≡◌, ℕ, zero, suc, ◌+◌, ◌-◌, ◌/◌, ◌<◌, Bool, cond, not, ◌&&◌, ◌||◌, List, map, length, Ok, Err, Result, ◌==◌, nat_lt, slice_index_or, slice_set}
+use Rattle.std.specs.Prelude.{◌≡◌, ℕ, zero, suc, ◌+◌, ◌-◌, ◌/◌, ◌<◌, Bool, cond, not, ◌&&◌, ◌||◌, List, map, length, Ok, Err, Result, ◌==◌, nat_lt, slice_index_or, slice_set, min}
 use Rattle.refusal.specs.declared.Refusal.{Refusal}
 use Rattle.refusal.specs.declared.Refusal.TheVariants.{NoSuchElement, SidesShareRing, RingsAlone}
 use Rattle.rings.specs.Circles.{meets}
@@ -10,7 +10,6 @@ use Rattle.topology.specs.declared.merging.Merging.{Merging}
 use Rattle.topology.specs.Rows.{no_side, next_of, polygon_of, low_of}
 use Rattle.topology.specs.States.{State}
 use Rattle.topology.specs.Questions.{arc_count, rings_of}
-use Rattle.topology.specs.Renumbered.{lower}
 use Rattle.topology.specs.Lifts.{lifted}
 use Rattle.topology.specs.Merged.{merged}
 
@@ -41,7 +40,7 @@ merging us a = record {
   low_unturned = low_of us (a + a);
   low_turned = low_of us (a + a + 1);
   low = first_from (in_either us a) 0 (length us);
-  polygon = lower (polygon_of us (a + a)) (polygon_of us (a + a + 1));
+  polygon = min (polygon_of us (a + a)) (polygon_of us (a + a + 1));
 }
 
 -- side s is a ring alone, and begins at a node

@@ -1,5 +1,5 @@
 -- Division: an arc between the starts of two sides of one ring makes two rings of it.
-use Rattle.std.specs.Prelude.{◌≡◌, ℕ, ◌+◌, ◌-◌, ◌<◌, Bool, false, cond, ◌&&◌, List, [], ◌∷◌, ◌++◌, map, length, Ok, Err, Result, ◌==◌, nat_le, nat_lt, slice_index_or}
+use Rattle.std.specs.Prelude.{◌≡◌, ℕ, ◌+◌, ◌-◌, ◌<◌, Bool, false, cond, ◌&&◌, List, [], ◌∷◌, ◌++◌, map, length, Ok, Err, Result, ◌==◌, nat_le, nat_lt, slice_index_or, min}
 use Rattle.std.specs.List.{range_with_len}
 use Rattle.refusal.specs.declared.Refusal.{Refusal}
 use Rattle.refusal.specs.declared.Refusal.TheVariants.{NoSuchElement, SidesInTwoRings, UnfitRun, RunEndsElsewhere, NoRoom}
@@ -11,13 +11,12 @@ use Rattle.topology.specs.declared.arc_side.ArcSide.TheVariants.{Unturned, Turne
 use Rattle.topology.specs.Rows.{no_side, no_vertex, next_of, node_of, polygon_of, low_of, same_place, start_of}
 use Rattle.topology.specs.States.{State}
 use Rattle.topology.specs.Questions.{rings_of}
-use Rattle.topology.specs.Renumbered.{lower}
 use Rattle.topology.specs.Islands.{all_good, arc_room, vertex_room}
 
 -- the lowest of a number and those of a list
 abbrev pub lowest_of : ℕ → List ℕ → ℕ
 lowest_of x [] = x
-lowest_of x (y ∷ ys) = lowest_of (lower x y) ys
+lowest_of x (y ∷ ys) = lowest_of (min x y) ys
 
 -- the lowest side of the ring of s
 abbrev pub ring_low : List Side → ℕ → ℕ

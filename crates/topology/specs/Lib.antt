@@ -13,3 +13,4 @@ pub mod Splits
 pub mod Divisions
 pub mod Merged
 pub mod Dissolves
+pub mod Joins

@@ -1,5 +1,5 @@
 -- Lift: a closed arc goes, with its node and both its rings.
-use Rattle.std.specs.Prelude.{ℕ, zero, suc, ◌+◌, ◌-◌, ◌/◌, Bool, true, false, cond, not, ◌&&◌, ◌||◌, List, map, length, take, Ok, Err, Result, ◌==◌, nat_lt, slice_index_or, slice_set}
+use Rattle.std.specs.Prelude.{ℕ, zero, suc, ◌+◌, ◌-◌, ◌/◌, Bool, true, false, cond, not, ◌&&◌, ◌||◌, List, map, length, take, Ok, Err, Result, ◌==◌, nat_lt, slice_index_or, slice_set, min, max}
 use Rattle.refusal.specs.declared.Refusal.{Refusal}
 use Rattle.refusal.specs.declared.Refusal.TheVariants.{NoSuchElement, ArcNotClosedAlone, PolygonLosesLastRing}
 use Rattle.topology.specs.declared.side.Side.{Side}
@@ -7,7 +7,7 @@ use Rattle.topology.specs.declared.renumbering.Renumbering.{Renumbering}
 use Rattle.topology.specs.Rows.{no_side, node_of, polygon_of, low_of}
 use Rattle.topology.specs.States.{State}
 use Rattle.topology.specs.Questions.{arc_count}
-use Rattle.topology.specs.Renumbered.{lower, higher, renumbered}
+use Rattle.topology.specs.Renumbered.{renumbered}
 
 -- no side below k, but those of arc a, begins where arc a begins
 abbrev pub no_other_begins : List Side → ℕ → ℕ → Bool
@@ -26,7 +26,7 @@ other_under us a p q (suc k) = other_under us a p q k || (not (k / 2 == a) && (p
 -- the polygons of the two sides of arc a merge into the lower number; that is polygon 0, or another ring is left to it
 abbrev pub ring_left : List Side → ℕ → Bool
 ring_left us a =
-    (lower (polygon_of us (a + a)) (polygon_of us (a + a + 1)) == 0)
+    (min (polygon_of us (a + a)) (polygon_of us (a + a + 1)) == 0)
     || other_under us a (polygon_of us (a + a)) (polygon_of us (a + a + 1)) (length us)
 
 -- the last of the polygons where one goes; where none goes, the gap is its own filling
@@ -41,8 +41,8 @@ lift_numbers us nodes polygons a = record {
   last_side = length us - 2;
   node = node_of us (a + a);
   last_node = nodes - 1;
-  polygon = higher (polygon_of us (a + a)) (polygon_of us (a + a + 1));
-  into = lower (polygon_of us (a + a)) (polygon_of us (a + a + 1));
+  polygon = max (polygon_of us (a + a)) (polygon_of us (a + a + 1));
+  into = min (polygon_of us (a + a)) (polygon_of us (a + a + 1));
   last_polygon = last_polygon us polygons a;
   low_unturned = low_of us (length us - 2);
   low_turned = low_of us (length us - 1);

@@ -1,14 +1,8 @@
 -- The numbers of sides, nodes and polygons once the highest of each kind has filled a gap.
-use Rattle.std.specs.Prelude.{ℕ, ◌+◌, cond, ◌==◌, nat_le}
+use Rattle.std.specs.Prelude.{ℕ, ◌+◌, cond, ◌==◌, min}
 use Rattle.rings.specs.Edits.{fill}
 use Rattle.topology.specs.declared.side.Side.{Side}
 use Rattle.topology.specs.declared.renumbering.Renumbering.{Renumbering}
-
-abbrev pub lower : ℕ → ℕ → ℕ
-lower p q = cond (nat_le p q) p q
-
-abbrev pub higher : ℕ → ℕ → ℕ
-higher p q = cond (nat_le p q) q p
 
 -- the side that has number s once the last arc has filled the gap
 abbrev pub side_filled : Renumbering → ℕ → ℕ
@@ -21,8 +15,8 @@ polygon_filled c p = fill c.polygon c.last_polygon (fill c.into c.polygon p)
 -- the rings of the last arc have a lower side now, where the arc's new number is lower
 abbrev pub low_filled : Renumbering → ℕ → ℕ
 low_filled c l =
-    cond (l == c.low_unturned) (lower c.low_unturned c.side)
-    (cond (l == c.low_turned) (lower c.low_turned (c.side + 1)) l)
+    cond (l == c.low_unturned) (min c.low_unturned c.side)
+    (cond (l == c.low_turned) (min c.low_turned (c.side + 1)) l)
 
 abbrev pub renumbered : Renumbering → Side → Side
 renumbered c s = record {

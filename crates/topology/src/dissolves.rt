@@ -5,7 +5,6 @@ ghost use Rattle.topology.specs.Questions.{arc_count, Rises};
 ghost use Rattle.topology.specs.Tables.{Holds};
 ghost use Rattle.topology.specs.Dissolves.{share_ring, both_alone, alone_at, in_either, first_from, merging, freed, dissolve_outcome, RingsMerged, PutBack};
 
-use super::lifts::numbers_where;
 use super::map::Map;
 use super::merging::{Merging, merge};
 use super::side::Side;
@@ -86,7 +85,7 @@ impl<'a> Table<'a, Side> {
     }
 
     // Puts the first two free rows back as they were before.
-    fn put_back(&mut self, unturned: Side, turned: Side)
+    pub(crate) fn put_back(&mut self, unturned: Side, turned: Side)
         requires { self.old.used + 1 < length self.old.rows.now }
         ensures { PutBack self.old self.new unturned turned }
     {
@@ -108,10 +107,8 @@ impl<'a> Map<'a> {
         let last_unturned = self.sides.rows[self.sides.used - 2];
         let last_turned = self.sides.rows[self.sides.used - 1];
         self.sides.set_free(arc, self.nodes as u32);
-        let numbers = numbers_where(self.sides.in_use(), self.nodes + 1, self.polygons, arc);
-        self.sides.remove(arc, numbers);
+        self.polygons = self.sides.take_out(arc, self.nodes + 1, self.polygons);
         self.sides.put_back(last_unturned, last_turned);
-        self.polygons = numbers.polygons_left(self.polygons);
     }
 
     /// Takes an arc away, and the rings of its two sides become one: the sides after one of them, then the sides after the other; two different polygons merge into the lower number, which gets all rings left. The highest number of each kind fills the gap; no node goes.

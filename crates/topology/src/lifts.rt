@@ -4,7 +4,7 @@ ghost use Rattle.topology.specs.Edited.{Edited, Done};
 ghost use Rattle.topology.specs.Questions.{arc_count, rings_of, Rises};
 ghost use Rattle.topology.specs.Tables.{Holds};
 ghost use Rattle.topology.specs.Renumbered.{renumbered};
-ghost use Rattle.topology.specs.Lifts.{closed_alone, other_under, ring_left, lift_numbers, rows_without, lift_outcome};
+ghost use Rattle.topology.specs.Lifts.{closed_alone, other_under, ring_left, lift_numbers, rows_without, lifted_sides, polygons_left, lift_outcome};
 ghost use Rattle.topology.specs.Dissolves.{both_alone};
 
 use super::map::Map;
@@ -22,12 +22,7 @@ fn has_other_under(sides: &[Side], arc: usize, p: u32, q: u32) -> bool
 }
 
 // The numbers that change where an arc goes.
-pub(crate) fn numbers_where(
-    sides: &[Side],
-    nodes: usize,
-    polygons: usize,
-    arc: usize,
-) -> Renumbering
+fn numbers_where(sides: &[Side], nodes: usize, polygons: usize, arc: usize) -> Renumbering
     requires few { length sides.now ≤ 32768 }
     requires here { arc + arc + 1 < length sides.now }
     requires some_node { 0 < nodes }
@@ -55,7 +50,7 @@ pub(crate) fn numbers_where(
 
 impl Renumbering {
     // How many polygons are left.
-    pub(crate) fn polygons_left(self, polygons: usize) -> usize
+    fn polygons_left(self, polygons: usize) -> usize
         requires { 0 < polygons }
         ensures { result ≡ (if nat_eq self.polygon self.into then polygons else polygons - 1) }
     {
@@ -69,7 +64,7 @@ impl Renumbering {
 
 impl<'a> Table<'a, Side> {
     // Takes the sides of an arc away: the last two rows take their place, and all change their numbers.
-    pub(crate) fn remove(&mut self, arc: usize, numbers: Renumbering)
+    fn remove(&mut self, arc: usize, numbers: Renumbering)
         requires here { arc + arc + 1 < self.old.used }
         requires even { self.old.used % 2 ≡ 0 }
         ensures { Holds self.old self.new (map (renumbered numbers) (rows_without (take self.old.used self.old.rows.now) arc)) }
@@ -77,6 +72,23 @@ impl<'a> Table<'a, Side> {
         self.used -= 2;
         self.rows.copy_within(self.used..self.used + 2, arc + arc);
         renumber(&mut self.rows[..self.used], numbers);
+    }
+
+    // Takes an arc out, with the node where it begins and, where its sides have two polygons, the higher of them. Tells how many polygons are left.
+    pub(crate) fn take_out(&mut self, arc: usize, nodes: usize, polygons: usize) -> usize
+        requires here { arc + arc + 1 < self.old.used }
+        requires even { self.old.used % 2 ≡ 0 }
+        requires few { self.old.used ≤ 32768 }
+        requires some_node { 0 < nodes }
+        requires nodes_few { nodes ≤ self.old.used }
+        requires some_polygon { 0 < polygons }
+        requires polygons_few { polygons ≤ self.old.used + 1 }
+        ensures rows { Holds self.old self.new (lifted_sides (take self.old.used self.old.rows.now) nodes polygons arc) }
+        ensures left { result ≡ polygons_left (take self.old.used self.old.rows.now) polygons arc }
+    {
+        let numbers = numbers_where(self.in_use(), nodes, polygons, arc);
+        self.remove(arc, numbers);
+        numbers.polygons_left(polygons)
     }
 }
 
@@ -113,10 +125,8 @@ impl<'a> Map<'a> {
         ensures rings { length (rings_of (state_of self.new)) + 2 ≡ length (rings_of (state_of self.old)) }
         ensures counts { (self.new.nodes + 1 ≡ self.old.nodes) × (self.new.sides.used + 2 ≡ self.old.sides.used) }
     {
-        let numbers = numbers_where(self.sides.in_use(), self.nodes, self.polygons, arc);
-        self.sides.remove(arc, numbers);
+        self.polygons = self.sides.take_out(arc, self.nodes, self.polygons);
         self.nodes -= 1;
-        self.polygons = numbers.polygons_left(self.polygons);
     }
 
     /// Takes a closed arc, its node and both its rings away; two different polygons merge into the lower number, which gets all rings left. The highest number of each kind fills the gap.

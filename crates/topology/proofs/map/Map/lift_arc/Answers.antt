@@ -1,11 +1,11 @@
 use Rattle.std.proofs.Common.{arith}
-use Rattle.topology.proofs.InUse.{long}
-use Rattle.topology.proofs.Shrinking.{removed_used}
+use Rattle.std.proofs.lemmas.List.{length-take-le}
+use Rattle.topology.proofs.TakenOut.{taken_used}
 use Rattle.topology.proofs.LiftDone.{some_node, lift_few, lift_law, lift_fewer}
 use Rattle.topology.proofs.map.Map.lift_arc.Goals as goal
 
-pub numbers_where-numbers-requires-clause-some_node : goal.numbers_where-numbers-requires-clause-some_node
-numbers_where-numbers-requires-clause-some_node c = some_node c.args.self.now c.args.arc c.requires.here
+pub take_out-self-requires-clause-some_node : goal.take_out-self-requires-clause-some_node
+take_out-self-requires-clause-some_node c = some_node c.args.self.now c.args.arc c.requires.here
 
 pub overflow_sub-self : goal.overflow_sub-self
 overflow_sub-self c = some_node c.args.self.now c.args.arc c.requires.here
@@ -14,19 +14,16 @@ pub invariant_of-self : goal.invariant_of-self
 invariant_of-self c =
     let m = c.args.self.now in
     let a = c.args.arc in
-    let s = c.remove.new.self in
-    let few = lift_few m s _ _ a _ c.in_use.ensures.rows c.numbers_where-numbers.ensures c.requires.here c.requires.alone c.requires.leaves c.remove.ensures c.polygons_left-self.ensures in
-    record { arcs_few = few.0; vertices_few = few.1; law = lift_law m s _ _ a _ c.in_use.ensures.rows c.numbers_where-numbers.ensures c.requires.here c.requires.alone c.requires.leaves c.remove.ensures c.polygons_left-self.ensures }
+    let s = c.take_out-self.new.self in
+    let few = lift_few m s a _ c.requires.here c.requires.alone c.requires.leaves c.take_out-self.ensures.rows c.take_out-self.ensures.left in
+    record { arcs_few = few.0; vertices_few = few.1; law = lift_law m s a _ c.requires.here c.requires.alone c.requires.leaves c.take_out-self.ensures.rows c.take_out-self.ensures.left }
 
 pub returns-clause-rings : goal.returns-clause-rings
 returns-clause-rings c =
-    let m = c.args.self.now in
-    let a = c.args.arc in
-    lift_fewer m c.remove.new.self _ _ a _ c.in_use.ensures.rows c.numbers_where-numbers.ensures c.requires.here c.requires.alone c.requires.leaves c.remove.ensures c.polygons_left-self.ensures
+    lift_fewer c.args.self.now c.take_out-self.new.self c.args.arc _ c.requires.here c.requires.alone c.requires.leaves c.take_out-self.ensures.rows c.take_out-self.ensures.left
 
 pub returns-clause-counts : goal.returns-clause-counts
 returns-clause-counts c =
     let m = c.args.self.now in
-    let t = c.remove.new.self in
     let h = some_node m c.args.arc c.requires.here in
-    (omega (arith, h), omega (arith, removed_used _ m.sides t c.args.arc c.remove.ensures, long m.sides.rows.now m.sides.used m.sides.fits, c.requires.here))
+    (omega (arith, h), omega (arith, taken_used m.sides c.take_out-self.new.self _ _ c.args.arc c.take_out-self.ensures.rows, length-take-le m.sides.used m.sides.rows.now m.sides.fits, c.requires.here))

@@ -1,8 +1,8 @@
 use Rattle.std.proofs.Common.{List, length, ap, arith}
+use Rattle.std.proofs.lemmas.List.{length-take-le}
 use Rattle.topology.specs.declared.side.Side.{Side}
 use Rattle.topology.specs.Rows.{row_of}
 use Rattle.topology.specs.States.{state_of}
-use Rattle.topology.proofs.InUse.{long}
 use Rattle.topology.proofs.Assembling.{lawful_of}
 use Rattle.topology.proofs.IslandLaw.{row_low}
 use Rattle.topology.proofs.map.Map.start_of.Goals as goal
@@ -12,7 +12,7 @@ bounds-in_use-row c =
     let m = c.args.self.now in
     let us = (state_of m).sides in
     let L = lawful_of m in
-    let l = long m.sides.rows.now m.sides.used m.sides.fits in
+    let l = length-take-le m.sides.used m.sides.rows.now m.sides.fits in
     let s = c.args.side in
     omega (
       arith,
