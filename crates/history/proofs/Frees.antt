@@ -1,6 +1,5 @@
 -- Rows that were never in use stay as they were.
-use Rattle.std.proofs.Common.{◌≡◌, ℕ, ◌+◌, ◌-◌, ◌<◌, ◌≤◌, cond, leb, List, [], ◌∷◌, length, get_or, drop, Ok, Result, sym, ap, ◌∙◌, subst, arith}
-use Rattle.std.proofs.lemmas.Bool.Decides.{nat_tests}
+use Rattle.std.proofs.Common.{◌≡◌, ℕ, ◌+◌, ◌-◌, ◌<◌, ◌≤◌, List, [], ◌∷◌, length, get_or, drop, Ok, Result, sym, ap, ◌∙◌, arith, max}
 use Rattle.std.proofs.lemmas.List.{at_drop_more, drop-drop, length-take-le}
 use Rattle.refusal.specs.declared.Refusal.{Refusal}
 use Rattle.topology.specs.declared.map.Map.{Map}
@@ -13,23 +12,13 @@ use Rattle.calls.specs.Outcomes.{Keeps}
 use Rattle.history.specs.Runs.{World, after, most, sides_used, vertices_used, FreeRows}
 
 -- the most is no less than what is in use at first, nor than the most of what is left
-abbrev larger : ℕ → ℕ → ℕ
-larger a b = cond (leb a b) b a
-
-larger_first : (a b : ℕ) → a ≤ larger a b
-larger_first a b = grind (arith, nat_tests)
-
-larger_second : (a b : ℕ) → b ≤ larger a b
-larger_second a b = grind (arith, nat_tests)
-
 pub most_first : (rows : State → ℕ) (w : World) (cs : List (Call (List Vertex))) → rows w.state ≤ most rows w cs
 most_first rows w [] = omega arith
-most_first rows w (c ∷ cs) = larger_first (rows w.state) (most rows (after w c) cs)
+most_first rows w (c ∷ cs) = omega arith
 
 pub most_next : (rows : State → ℕ) (w : World) (cs : List (Call (List Vertex))) (i : ℕ) (d : Call (List Vertex)) → i < length cs → most rows (after w (get_or cs i d)) (drop (i + 1) cs) ≤ most rows w (drop i cs)
 most_next rows w cs i d h =
-    let e : most rows w (drop i cs) ≡ larger (rows w.state) (most rows (after w (get_or cs i d)) (drop (i + 1) cs)) = at_drop_more (most rows w) cs i d h in
-    subst (λ (k : ℕ). most rows (after w (get_or cs i d)) (drop (i + 1) cs) ≤ k) (sym e) (larger_second (rows w.state) (most rows (after w (get_or cs i d)) (drop (i + 1) cs)))
+    let e : most rows w (drop i cs) ≡ max (rows w.state) (most rows (after w (get_or cs i d)) (drop (i + 1) cs)) = at_drop_more (most rows w) cs i d h in omega arith
 
 further : {X : Type 0} (xs ys : List X) (n k : ℕ) → n ≤ k → drop n xs ≡ drop n ys → drop k xs ≡ drop k ys
 further xs ys n k l e =

@@ -6,8 +6,7 @@ use Rattle.rings.specs.Law.{opp}
 use Rattle.rings.proofs.Ringed.{ringed_circles}
 use Rattle.rings.proofs.Words.{rings_order, turn_meets}
 use Rattle.rings.proofs.Division.{same_ring}
-use Rattle.rings.proofs.Opposites.{opp_back}
-use Rattle.rings.proofs.Split.{opp_low}
+use Rattle.rings.proofs.Split.{opp_low, opp_opp}
 use Rattle.topology.specs.declared.vertex.Vertex.{Vertex}
 use Rattle.topology.specs.Rows.{next_of, node_of, polygon_of}
 use Rattle.topology.specs.States.{State}
@@ -36,7 +35,7 @@ in_order m s =
     record {
       rings_listed = (c, o.0, o.1);
       one_polygon = λ a b la lb h. sym (same_ring f (polygon_of us) n (rings f n) c s.one_polygon a b la lb (λ _. h));
-      rings_close = λ x l. ap (λ (y : ℕ). node_of us (f y)) (sym (opp_back x)) ∙ s.rings_close (opp x) (opp_low n x s.paired l);
+      rings_close = λ x l. ap (λ (y : ℕ). node_of us (f y)) (sym (opp_opp x)) ∙ s.rings_close (opp x) (opp_low n x s.paired l);
       turns_meet = λ x l y ly e. turn_meets f (node_of us) n m.nodes s.in_turns s.rings_close s.one_turn x y l ly e;
     }
 

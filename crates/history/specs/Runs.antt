@@ -1,5 +1,5 @@
 -- What a list of calls does, one call after the other.
-use Rattle.std.specs.Prelude.{◌≡◌, ℕ, ◌<◌, ◌≤◌, cond, List, [], ◌∷◌, ◌++◌, length, drop, Ok, Err, Result, nat_le}
+use Rattle.std.specs.Prelude.{◌≡◌, ℕ, ◌<◌, ◌≤◌, List, [], ◌∷◌, ◌++◌, length, drop, Ok, Err, Result, max}
 use Rattle.refusal.specs.declared.Refusal.{Refusal}
 use Rattle.refusal.specs.declared.Refusal.TheVariants.{DoesNotFit}
 use Rattle.topology.specs.declared.map.Map.{Map}
@@ -39,7 +39,7 @@ answers w (c ∷ cs) = reply w c ∷ answers (after w c) cs
 -- the most rows that are in use at any time of a list of calls, of sides or of vertices
 abbrev pub most : (State → ℕ) → World → List (Call (List Vertex)) → ℕ
 most rows w [] = rows w.state
-most rows w (c ∷ cs) = cond (nat_le (rows w.state) (most rows (after w c) cs)) (most rows (after w c) cs) (rows w.state)
+most rows w (c ∷ cs) = max (rows w.state) (most rows (after w c) cs)
 
 abbrev pub sides_used : State → ℕ
 sides_used m = length m.sides

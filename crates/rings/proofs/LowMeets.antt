@@ -1,17 +1,13 @@
 -- The lowest member of a circle is one of its members, and that is all that the names of circles ask.
-use Rattle.std.proofs.Common.{◌≡◌, ℕ, ◌<◌, ◌≤◌, Bool, true, false, ◌&&◌, eqb, ltb, List, [], ◌∷◌, sym, refl, ap, ◌∙◌, subst, inl, inr, arith}
+use Rattle.std.proofs.Common.{◌≡◌, ℕ, ◌<◌, ◌≤◌, true, ◌&&◌, eqb, ltb, List, [], ◌∷◌, sym, ap, ◌∙◌, subst, inl, inr, arith}
 use Rattle.std.proofs.lemmas.Bool.{cases_eq, cases_lt, ltb-true, eqb-true, eq-eqb, ne_eqb, lt-ltb, le-ltb, and_parts, and_from, and_left, and_right}
 use Rattle.rings.specs.Circles.{one_if, occ, occs, AllCircles, Circles, names, ring, rings, meets}
 use Rattle.rings.specs.Law.{Ringed, LowAlong, LowNames}
-use Rattle.rings.proofs.Occurs.{one_same, one_other, one_most, one_below, below_one}
+use Rattle.rings.proofs.Occurs.{one_same, one_other, one_most, one_below, below_one, one_true}
 use Rattle.rings.proofs.Chains.{picked, turned}
 use Rattle.rings.proofs.Listing.{ring_is}
 use Rattle.rings.proofs.Ringed.{ringed_circles}
 use Rattle.rings.proofs.Closed.{same_circle, meets_self}
-
-one_true : (t : Bool) → 0 < one_if t → t ≡ true
-one_true true h = refl
-one_true false h = absurd (omega arith)
 
 module _ (f low : ℕ → ℕ) (n : ℕ) (r : Ringed f n) (along : LowAlong f low n) where
   fc : Circles f n (rings f n)

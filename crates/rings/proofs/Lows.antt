@@ -4,7 +4,7 @@ use Rattle.std.proofs.lemmas.Bool.{cases_eq, cases_lt, ltb-true, eqb-true, lt-lt
 use Rattle.std.proofs.lemmas.List.{append-nil}
 use Rattle.rings.specs.Circles.{one_if, occ, occs, AllCircles, first, names, ring, rings, Lowest, Rising, starts, kept}
 use Rattle.rings.specs.Law.{Ringed, LowAlong, LowBelow, LowNames}
-use Rattle.rings.proofs.Occurs.{occ_append, one_same, one_other, one_most, below_one}
+use Rattle.rings.proofs.Occurs.{occ_append, one_same, one_other, one_most, below_one, one_true}
 use Rattle.rings.proofs.Ringed.{ringed_circles}
 use Rattle.rings.proofs.Listing.{ring_is}
 use Rattle.rings.proofs.Closed.{same_circle}
@@ -106,10 +106,6 @@ module _ (f low : ℕ → ℕ) (n : ℕ) (r : Ringed f n) (along : LowAlong f lo
             let m = same_circle f low n (rings f n) (ringed_circles f n r) along most a v la lv (sym ev) ne in
             omega (arith, below a la, lowest v (ltb-true 0 (occ v (ring f n a)) m))
       ]
-    where
-      one_true : (t : Bool) → 0 < one_if t → t ≡ true
-      one_true true h = refl
-      one_true false h = absurd (omega arith)
 
   lows_first : (cs : List (List ℕ)) → AllCircles f cs → Lowest cs → ((k : ℕ) → occs k cs ≤ one_if (ltb k n)) → ((v : ℕ) → occ v (names low cs) ≤ occ v (names low (rings f n))) → names low cs ≡ starts cs
   lows_first [] c l o w = refl

@@ -78,6 +78,20 @@ module _ (f h : ℕ → ℕ) (n s t : ℕ) (even : n % 2 ≡ 0) (r : Ringed f n)
   pub over_u : h u ≡ u
   over_u = is u lu ∙ (leave_else f₁ t u ut (λ e. ut (sym (leave_at f u) ∙ e)) ∙ leave_at f u)
 
+  -- the side before t leads where t led, the one before the far end to s, and the others where they led
+  pub over_o : h o ≡ leave f u t
+  over_o = is o lo ∙ leave_past f₁ t o (λ i. to (sym i)) (leave_else f u o ou (λ i. ut (sym i ∙ to_t)) ∙ to_t)
+
+  pub over_else : (k : ℕ) → k < n → (k ≡ t → ⊥) → (k ≡ u → ⊥) → (k ≡ o → ⊥) → h k ≡ leave f u k
+  over_else k l nt nu no-o =
+      is k l
+      ∙ leave_else f₁ t k nt
+      (λ e.
+      elim (cases_eq (f k) u) [
+        | inl i ↦ ts (sym e ∙ (leave_past f u k nu i ∙ to_s))
+        | inr ni ↦ no-o (one k o l lo (sym (leave_else f u k nu ni) ∙ (e ∙ sym to_t)))
+      ])
+
   -- a label along the rings, that the two sides may have told otherwise
   module _ (lab lab' : ℕ → ℕ) (along : Along f lab n) (same : (k : ℕ) → k < n → (k ≡ t → ⊥) → (k ≡ u → ⊥) → lab' k ≡ lab k) where
     -- told so by the far end alone
@@ -144,7 +158,7 @@ module _ (f h : ℕ → ℕ) (n s t : ℕ) (even : n % 2 ≡ 0) (r : Ringed f n)
                   let yu : y ≡ u → ⊥ = λ e. nt (sym (opp_opp k) ∙ (ap opp e ∙ opp_opp t)) in
                   elim (cases_eq k s) [
                     | inl e ↦
-                        let w = ap h (ap opp e) ∙ (is o lo ∙ (leave_past f₁ t o (λ i. to (sym i)) (leave_else f u o ou (λ i. ut (sym i ∙ to_t)) ∙ to_t))) in
+                        let w = ap h (ap opp e) ∙ over_o in
                         let v = ap (λ (x : ℕ). ρ (turn f x)) (ap ρ e ∙ swapped_first s u) ∙ ap (λ (x : ℕ). ρ (f x)) (opp_opp t) in
                         elim (cases_eq (f t) u) [
                           | inl i ↦ w ∙ (leave_past f u t (λ j. ut (sym j)) i ∙ (to_s ∙ sym (v ∙ (ap ρ i ∙ swapped_second s u))))
@@ -155,16 +169,10 @@ module _ (f h : ℕ → ℕ) (n s t : ℕ) (even : n % 2 ≡ 0) (r : Ringed f n)
                         ]
                     | inr ns ↦
                         let v = ap (λ (x : ℕ). ρ (turn f x)) (swapped_else s u k ns nu) in
+                        let yo : y ≡ o → ⊥ = λ e. ns (sym (opp_opp k) ∙ (ap opp e ∙ opp_opp s)) in
                         elim (cases_eq (f y) u) [
-                          | inl i ↦
-                              let w = leave_past f u y yu i ∙ to_s in
-                              is y ly ∙ (leave_else f₁ t y yt (λ j. ts (sym j ∙ w)) ∙ (w ∙ sym (v ∙ (ap ρ i ∙ swapped_second s u))))
-                          | inr ni ↦
-                              let w = leave_else f u y yu ni in
-                              let yo : f y ≡ t → ⊥ = λ j. ns (sym (opp_opp k) ∙ (ap opp (one y o ly lo (j ∙ sym to_t)) ∙ opp_opp s)) in
-                              is y ly
-                              ∙ (leave_else f₁ t y yt (λ j. yo (sym w ∙ j))
-                              ∙ (w ∙ sym (v ∙ swapped_else s u (f y) (λ j. yu (one y u ly lu (j ∙ sym to_s))) ni)))
+                          | inl i ↦ over_else y ly yt yu yo ∙ (leave_past f u y yu i ∙ (to_s ∙ sym (v ∙ (ap ρ i ∙ swapped_second s u))))
+                          | inr ni ↦ over_else y ly yt yu yo ∙ (leave_else f u y yu ni ∙ sym (v ∙ swapped_else s u (f y) (λ j. yu (one y u ly lu (j ∙ sym to_s))) ni))
                         ]
                   ]
             ]

@@ -1,6 +1,6 @@
 -- A ring becomes two: which rings there were and are where a ring is divided.
 use Rattle.std.proofs.Common.{◌≡◌, ℕ, suc, ◌+◌, ◌<◌, ◌≤◌, Bool, true, false, cond, eqb, ltb, ◌⊎◌, List, [], ◌∷◌, ◌++◌, sym, ap, ◌∙◌, subst, inl, inr, arith}
-use Rattle.std.proofs.lemmas.Bool.{cases_eq, cases_lt, cases_Bool, eq-eqb, ltb-true, lt-ltb, le-ltb, cond-true}
+use Rattle.std.proofs.lemmas.Bool.{cases_eq, cases_lt, cases_Bool, eq-eqb, ltb-true, lt-ltb, le-ltb, cond-true, both_ways}
 use Rattle.rings.specs.Circles.{one_if, occ, Chain, Circle, walk, ring, rings, meets, Divided}
 use Rattle.rings.specs.Law.{Ringed, Along}
 use Rattle.rings.proofs.Occurs.{occ_append, one_same, one_other, one_most, one_below, one_past, below_one, below_more}
@@ -155,18 +155,14 @@ module _ (f g : ℕ → ℕ) (n p q : ℕ) (r : Ringed f n) (s : Ringed g (n + 2
             (sym (meets_next g (n + 2) (rings g (n + 2)) (ringed_circles g (n + 2) s) (suc n) q (omega arith) (omega arith)) ∙ (ap T (d.apart ne).0 ∙ meets_self g (n + 2) (suc n)))
       ]
 
-  clash : (b : Bool) → b ≡ true → b ≡ false → ⊥
-  clash true h k = absurd (let z : ◌≡◌ {A = ℕ} 1 0 = ap one_if k in omega arith)
-  clash false h k = absurd (let z : ◌≡◌ {A = ℕ} 0 1 = ap one_if h in omega arith)
-
   -- a side of neither is an old one, and leads where it led
   pub neither : (k : ℕ) → k < n + 2 → U k ≡ false → T k ≡ false → (k < n) × (g k ≡ f k) × (meets f n p k ≡ false)
   neither k l u t =
-      let nn : k ≡ n → ⊥ = λ e. clash (U k) (ap U e ∙ meets_self g (n + 2) n) u in
-      let nt : k ≡ suc n → ⊥ = λ e. clash (T k) (ap T e ∙ meets_self g (n + 2) (suc n)) t in
+      let nn : k ≡ n → ⊥ = λ e. both_ways (U k) u (ap U e ∙ meets_self g (n + 2) n) in
+      let nt : k ≡ suc n → ⊥ = λ e. both_ways (T k) t (ap T e ∙ meets_self g (n + 2) (suc n)) in
       let lk : k < n = omega arith in
-      let np : k ≡ p → ⊥ = λ e. clash (U k) (ap U e ∙ p_met) u in
-      let nq : k ≡ q → ⊥ = λ e. elim q_met [ inl h ↦ clash (U k) (ap U e ∙ h) u | inr h ↦ clash (T k) (ap T e ∙ h) t ] in
+      let np : k ≡ p → ⊥ = λ e. both_ways (U k) u (ap U e ∙ p_met) in
+      let nq : k ≡ q → ⊥ = λ e. elim q_met [ inl h ↦ both_ways (U k) u (ap U e ∙ h) | inr h ↦ both_ways (T k) t (ap T e ∙ h) ] in
       let z = not_met (occ k (ring f n p)) (omega (arith, just_one k lk, ap one_if u, ap one_if t)) in
       (lk, d.else' k lk np nq, le-ltb 0 (occ k (ring f n p)) (omega arith))
 
@@ -191,7 +187,7 @@ module _ (f g : ℕ → ℕ) (n p q : ℕ) (r : Ringed f n) (s : Ringed g (n + 2
       let off : meets f n p x ≡ true → ⊥ =
       λ y.
       let kx : meets f n x k ≡ true = meets_sym f n (rings f n) (ringed_circles f n r) x k lx l ∙ mx in
-      clash (meets f n p k) (sym (ring_same f n p x r lp y k) ∙ kx) h in
+      both_ways (meets f n p k) h (sym (ring_same f n p x r lp y k) ∙ kx) in
       d.else' x lx (λ e. off (ap (meets f n p) e ∙ meets_self f n p))
       (λ e.
       off

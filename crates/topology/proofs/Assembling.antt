@@ -33,14 +33,20 @@ state_from hand s v nodes polygons = record {
   vertex_rows = length v.rows.now;
 }
 
+-- the room for k vertices
+pub vertices_told : (m : Map) (k : ℕ) → vertex_room (state_of m) k ≡ true → (length (state_of m).vertices + k ≤ length m.vertices.rows.now) × (length (state_of m).vertices + k ≤ 1048576)
+vertices_told m k room =
+    let v = length (state_of m).vertices in
+    let (e, g) = and_parts (leb (v + k) (length m.vertices.rows.now)) (leb (v + k) 1048576) room in
+    (leb-true _ _ e, leb-true _ _ g)
+
 -- the room for an arc of k vertices
 pub room_told : (m : Map) (k : ℕ) → (arc_room (state_of m) && vertex_room (state_of m) k) ≡ true →
     (length (state_of m).sides + 2 ≤ length m.sides.rows.now) × (length (state_of m).sides + 2 ≤ 32768)
     × (length (state_of m).vertices + k ≤ length m.vertices.rows.now) × (length (state_of m).vertices + k ≤ 1048576)
 room_told m k room =
     let n = length (state_of m).sides in
-    let v = length (state_of m).vertices in
     let (x, y) = and_parts (arc_room (state_of m)) (vertex_room (state_of m) k) room in
     let (c, d) = and_parts (leb (n + 2) (length m.sides.rows.now)) (leb (n + 2) 32768) x in
-    let (e, g) = and_parts (leb (v + k) (length m.vertices.rows.now)) (leb (v + k) 1048576) y in
-    (leb-true _ _ c, leb-true _ _ d, leb-true _ _ e, leb-true _ _ g)
+    let (e, g) = vertices_told m k y in
+    (leb-true _ _ c, leb-true _ _ d, e, g)

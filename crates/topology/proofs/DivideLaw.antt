@@ -3,10 +3,10 @@ use Rattle.std.proofs.Common.{◌≡◌, ℕ, suc, ◌+◌, ◌-◌, ◌<◌, �
 use mathlib.Core.Path.{fun_ext}
 use Rattle.std.proofs.lemmas.Bool.{cases_eq, cases_lt, cases_Bool, and_parts, leb-true, lt-ltb, eq-eqb, ne_eqb, ltb-true, cond-true, cond-false}
 use Rattle.std.proofs.lemmas.List.{get_or_append_left, get_or-append_right, get_or_past, get_or-map, length-append, length-map}
-use Rattle.rings.specs.Circles.{one_if, occ, occs, AllCircles, names, put, ring, rings, walk, meets, Divided}
+use Rattle.rings.specs.Circles.{one_if, occ, names, put, ring, rings, walk, meets, Divided}
 use Rattle.rings.specs.Law.{turn, Ringed, Closes, Along, Noded}
 use Rattle.rings.specs.Edits.{divide_next, divide_node}
-use Rattle.rings.proofs.Occurs.{one_same, one_other, below_one}
+use Rattle.rings.proofs.Occurs.{one_other, below_one}
 use Rattle.rings.proofs.Links.{put_same, put_other}
 use Rattle.rings.proofs.Ringed.{ringed_circles}
 use Rattle.rings.proofs.Closed.{within, one_image, meets_next, meets_self, meets_sym}
@@ -14,6 +14,7 @@ use Rattle.rings.proofs.Labels.{few_but_zero, label_there}
 use Rattle.rings.proofs.LowMeets.{low_meets, names_low}
 use Rattle.rings.proofs.Division.{DivideKeeps, divide_keeps, divide_divided, same_ring, at_p, at_n, at_q, at_top, at_top_alone, at_else}
 use Rattle.rings.proofs.TwoRings.{ring_same, new_apart, just_one, neither, either, others_stay, told_along}
+use Rattle.rings.proofs.Words.{some_circle}
 use Rattle.topology.specs.declared.side.Side.{Side}
 use Rattle.topology.specs.declared.vertex.Vertex.{Vertex}
 use Rattle.topology.specs.Rows.{no_side, no_vertex, next_of, node_of, polygon_of, row_of, low_of, good, same_place, start_of}
@@ -21,8 +22,7 @@ use Rattle.topology.specs.MapLaw.{AllFinite, EndsTogether, RunsStand, PolygonsKn
 use Rattle.topology.specs.Lawfuls.{Lawful}
 use Rattle.topology.specs.Islands.{all_good}
 use Rattle.topology.specs.Divisions.{lowest_of, ring_low, ring_told, relinked, unturned_to, turned_to, linked, fit_run}
-use Rattle.topology.proofs.Places.{place_self, place_sym}
-use Rattle.topology.proofs.PlaceChain.{place_chain}
+use Rattle.topology.proofs.Places.{place_self, place_sym, place_chain}
 use Rattle.topology.proofs.IslandLaw.{good_at, row_low}
 use Rattle.topology.proofs.RingTold.{told_long, told_polygon, told_low, told_else, lowest_first, lowest_other, lowest_there}
 
@@ -114,16 +114,6 @@ past_divide f n p q k lp lq g =
     put_other (put (put (put f q (suc n)) (suc n) (put f q (suc n) p)) n (f q)) p n k (omega arith)
     ∙ (put_other (put (put f q (suc n)) (suc n) (put f q (suc n) p)) n (f q) k (omega arith)
     ∙ (put_other (put f q (suc n)) (suc n) (put f q (suc n) p) k (omega arith) ∙ put_other f q (suc n) k (omega arith)))
-
--- a label that stands on a circle is that of a member
-label_member : (f lab : ℕ → ℕ) (n v : ℕ) (cs : List (List ℕ)) → AllCircles f cs → ((k : ℕ) → occs k cs ≤ one_if (ltb k n)) → 0 < occ v (names lab cs) → (k : ℕ) × (k < n) × (lab k ≡ v)
-label_member f lab n v [] c o h = absurd (omega arith)
-label_member f lab n v ([] ∷ cs) c o h = absurd c.0
-label_member f lab n v ((x ∷ xs) ∷ cs) c o h =
-    elim (cases_eq v (lab x)) [
-      | inl e ↦ (x, below_one x n (omega (arith, o x, one_same x)), sym e)
-      | inr ne ↦ label_member f lab n v cs c.1 (λ k. omega (arith, o k)) (omega (arith, one_other v (lab x) ne))
-    ]
 
 -- ---- the law
 
@@ -399,7 +389,8 @@ module _ (us : List Side) (vs run : List Vertex) (nodes polygons first second p 
           | inl e ↦ subst (λ (v : ℕ). 0 < occ v (names (polygon_of us') (rings g N))) (sym e) has_new
           | inr ne ↦
               let c = ringed_circles f m L.in_rings in
-              let (k, lk, e) = label_member f (polygon_of us) m x (rings f m) c.round (λ j. omega (arith, c.once j)) (L.polygons_have_rings x h (omega arith)) in
+              let (k, on, e) = some_circle f (polygon_of us) x (rings f m) c.round (L.polygons_have_rings x h (omega arith)) in
+              let lk = below_one k m (omega (arith, on, c.once k)) in
               elim (cases_Bool (T k)) [
                 | inl t ↦ subst (λ (v : ℕ). 0 < occ v (names (polygon_of us') (rings g N))) (sym (of_ring k lk (inr t)) ∙ e) has_old
                 | inr t ↦
@@ -481,7 +472,7 @@ module _ (us : List Side) (vs run : List Vertex) (nodes polygons first second p 
 
       -- each side begins where some old side begins, at its place
       abbrev Old : ℕ → Type 0
-      Old s = (o : ℕ) × (o < m) × (node_of us' s ≡ node_of us o) × (same_place (start_of us' vs' s) (start_of us vs o) ≡ true) × (good (start_of us' vs' s) ≡ true)
+      Old s = (o : ℕ) × (o < m) × (node_of us' s ≡ node_of us o) × (same_place (start_of us' vs' s) (start_of us vs o) ≡ true)
 
       old_of : (s : ℕ) → s < N → Old s
       old_of s l =
@@ -489,29 +480,29 @@ module _ (us : List Side) (vs run : List Vertex) (nodes polygons first second p 
             | inl o ↦
                 let e : start_of us' vs' s ≡ start_of us vs s =
                 ap (λ (i : ℕ). get_or vs' i no_vertex) (row_old s o) ∙ old_vertex (row_of us s) (row_low us vs m s L.paired L.runs_stand o) in
-                (s, o, node_old s o, rw e (place_self (start_of us vs s) (good_old s o)), rw e (good_old s o))
+                (s, o, node_old s o, rw e (place_self (start_of us vs s) (good_old s o)))
             | inr h ↦
                 elim (cases_eq s m) [
                   | inl i ↦
                       let z : row ≡ length vs + 0 = omega arith in
                       let e : start_of us' vs' s ≡ get_or run 0 no_vertex = ap (λ (j : ℕ). get_or vs' j no_vertex) (ap (row_of us') i ∙ (row_n ∙ z)) ∙ new_vertex 0 in
-                      (first, lf, ap (node_of us') i ∙ node_n, rw e starts, rw e (good_at run goods 0 (omega (arith, two))))
+                      (first, lf, ap (node_of us') i ∙ node_n, rw e starts)
                   | inr ne ↦
                       let i : s ≡ suc m = omega arith in
                       let e : start_of us' vs' s ≡ get_or run (length run - 1) no_vertex = ap (λ (j : ℕ). get_or vs' j no_vertex) (ap (row_of us') i ∙ row_top) ∙ new_vertex (length run - 1) in
-                      (second, ls, ap (node_of us') i ∙ node_top, rw e ends, rw e (good_at run goods (length run - 1) (omega (arith, two))))
+                      (second, ls, ap (node_of us') i ∙ node_top, rw e ends)
                 ]
           ]
 
       ends_together : EndsTogether us' vs' N
       ends_together s t (l, k, e) =
-          let (o, lo, eo, po, go) = old_of s l in
-          let (u, lv, ev, pv, gv) = old_of t k in
+          let (o, lo, eo, po) = old_of s l in
+          let (u, lv, ev, pv) = old_of t k in
           let A = start_of us' vs' s in
           let B = start_of us vs o in
           let C = start_of us vs u in
           let E = start_of us' vs' t in
-          place_chain A B E go po (place_chain B C E (good_old o lo) (L.ends_together o u (lo, lv, sym eo ∙ (e ∙ ev))) (place_sym E C pv))
+          place_chain A B E po (place_chain B C E (L.ends_together o u (lo, lv, sym eo ∙ (e ∙ ev))) (place_sym E C pv))
 
       along_to : (lab : ℕ → ℕ) → Along g lab N → Along (next_of us') lab N
       along_to lab h = subst (λ (z : ℕ → ℕ). Along z lab N) (sym next') h

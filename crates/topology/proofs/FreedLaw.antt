@@ -25,6 +25,7 @@ use Rattle.topology.specs.Merged.{merges, merged}
 use Rattle.topology.specs.Dissolves.{share_ring, both_alone, in_either, first_from, merging, alone_at, freed}
 use Rattle.topology.proofs.Alone.{rings_alone, other_found}
 use Rattle.topology.proofs.Places.{place_self}
+use Rattle.topology.proofs.IslandLaw.{row_low}
 
 -- the first that passes a test does so, and comes no later than another that does
 pub first_found : (P : ℕ → Bool) (k n t : ℕ) → k ≤ t → t < k + n → P t ≡ true → (P (first_from P k n) ≡ true) × (first_from P k n ≤ t)
@@ -374,19 +375,11 @@ module _ (us : List Side) (vs : List Vertex) (nodes polygons z a : ℕ) (long : 
       by_place (λ k. row_of us₁ k ≡ row_of us k) (ap (λ (r : Side). r.row) row_s) (ap (λ (r : Side). r.row) row_o) (λ k l ns nt e. ap (λ (r : Side). r.row) (row_else k l ns nt))
       (λ k l ns nt ms mt. ap (λ (r : Side). r.row) (row_else k l ns nt))
 
-  row_low : (k : ℕ) → k < N → row_of us k < length vs
-  row_low k l =
-      let b = L.runs_stand (k / 2) (omega arith) in
-      elim (cases_eq (k % 2) 0) [
-        | inl e ↦ let i : k ≡ k / 2 + k / 2 = omega arith in omega (arith, b.0, b.1, ap (row_of us) i)
-        | inr e ↦ let i : k ≡ k / 2 + k / 2 + 1 = omega arith in omega (arith, b.1, ap (row_of us) i)
-      ]
-
   abbrev place : Vertex
   place = start_of us vs s
 
   place_good : good place ≡ true
-  place_good = L.all_finite (row_of us s) (row_low s ls)
+  place_good = L.all_finite (row_of us s) (row_low us vs N s L.paired L.runs_stand ls)
 
   abbrev vs₁ : List Vertex
   vs₁ = map (λ _. place) vs
@@ -399,8 +392,8 @@ module _ (us : List Side) (vs : List Vertex) (nodes polygons z a : ℕ) (long : 
 
   ends_together₁ : EndsTogether us₁ vs₁ N
   ends_together₁ k t (lk, lt, e) =
-      let i : start_of us₁ vs₁ k ≡ place = placed (row_of us₁ k) (omega (arith, row_same k lk, row_low k lk)) in
-      let j : start_of us₁ vs₁ t ≡ place = placed (row_of us₁ t) (omega (arith, row_same t lt, row_low t lt)) in
+      let i : start_of us₁ vs₁ k ≡ place = placed (row_of us₁ k) (omega (arith, row_same k lk, row_low us vs N k L.paired L.runs_stand lk)) in
+      let j : start_of us₁ vs₁ t ≡ place = placed (row_of us₁ t) (omega (arith, row_same t lt, row_low us vs N t L.paired L.runs_stand lt)) in
       rw (i, j) (place_self place place_good)
 
   all_finite₁ : AllFinite vs₁

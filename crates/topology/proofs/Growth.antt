@@ -1,18 +1,22 @@
 -- Rows added to a table, and rows changed.
-use Rattle.std.proofs.Common.{◌≡◌, ℕ, ◌+◌, ◌<◌, ◌≤◌, List, [], ◌∷◌, ◌++◌, map, length, get_or, take, drop, set, sym, refl, ap, ◌∙◌, subst, arith}
+use Rattle.std.proofs.Common.{◌≡◌, ℕ, ◌+◌, ◌-◌, ◌<◌, ◌≤◌, List, [], ◌∷◌, ◌++◌, map, length, get_or, take, drop, set, sym, refl, ap, ◌∙◌, subst, arith}
 use borrow.Rule.Slice.PartMut.{put_mid}
-use Rattle.std.proofs.lemmas.List.{length-append, length-take, length-drop, take_at, drop-drop, append_assoc, same_lists, places, get_or-set_same, get_or-set_other, get_or_default, length-set, drop_at, drop_more, length-take-le}
+use Rattle.std.proofs.lemmas.List.{length-append, length-take, length-drop, take_at, drop-drop, append_assoc, get_or_default, length-set, drop_at, drop_more, length-take-le, drop-set-lt, drop-take, take-take}
 use Rattle.std.proofs.lemmas.List.Elements.{all_zip_more}
 use Rattle.std.specs.List.{AllZip}
 use Rattle.topology.specs.declared.table.Table.{Table}
 use Rattle.topology.specs.Tables.{Holds, Grown}
-use Rattle.std.proofs.lemmas.Bool.{cases_eq}
+use Rattle.std.proofs.lemmas.Grind.{take-set_at}
 
-pub take_set : {X : Type 0} (xs : List X) (n : ℕ) (v : X) → n < length xs → take (n + 1) (set xs n v) ≡ take n xs ++ v ∷ []
-take_set xs n v h = same_lists _ _ (simp (length-append, length-take, length-set) (omega arith)) (λ k d p. grind (arith, places, get_or-set_same, cases_eq k n))
+-- a range of the first rows is that of all rows
+pub range_before : {X : Type 0} (xs : List X) (m k n : ℕ) → k + n ≤ m → take n (drop k (take m xs)) ≡ take n (drop k xs)
+range_before xs m k n l =
+    let e : m ≡ k + (m - k) = omega arith in
+    ap (λ (j : ℕ). take n (drop k (take j xs))) e ∙ (ap (take n) (drop-take k (m - k) xs) ∙ take-take n (m - k) (drop k xs) (omega arith))
 
-pub drop_set : {X : Type 0} (xs : List X) (n : ℕ) (v : X) → drop (n + 1) (set xs n v) ≡ drop (n + 1) xs
-drop_set xs n v = same_lists _ _ (simp (length-drop, length-set) refl) (λ k d p. grind (arith, places, get_or-set_other))
+-- .. so it stays where others come after them
+pub run_before : {X : Type 0} (xs ys : List X) (k n : ℕ) → k + n ≤ length xs → take n (drop k (xs ++ ys)) ≡ take n (drop k xs)
+run_before {X = X} xs ys k n l = sym (range_before (xs ++ ys) (length xs) k n l) ∙ ap (λ (zs : List X). take n (drop k zs)) (take_at xs ys (length xs) refl)
 
 module _ {X : Type 0} (xs ys zs : List X) (n k : ℕ) (e : ys ≡ zs) (f : k ≡ length zs) (h : n + length zs ≤ length xs) where
   told : put_mid n k xs ys ≡ (take n xs ++ zs) ++ drop (n + length zs) xs
@@ -77,9 +81,9 @@ changing_more R old rows i d y l c r =
     let h : get_or rows i d ≡ get_or old i d = cc in
     record {
       changed =
-          subst (AllZip R (take (i + 1) old)) (sym (take_set rows i y lt))
+          subst (AllZip R (take (i + 1) old)) (sym (take-set_at rows i (i + 1) y refl lt))
           (all_zip_more R old (take i rows) i (get_or rows i d) y l (h ∙ get_or_default old i d (get_or rows i d) l) c.changed r);
-      ahead = drop_set rows i y ∙ cc;
+      ahead = drop-set-lt (i + 1) rows i y (omega arith) ∙ cc;
       long = length-set rows i y ∙ c.long;
     }
 

@@ -1,7 +1,8 @@
 -- An island keeps the law, and adds two rings.
-use Rattle.std.proofs.Common.{◌≡◌, ℕ, zero, suc, ◌+◌, ◌-◌, ◌/◌, ◌%◌, ◌<◌, ◌≤◌, true, false, ◌&&◌, eqb, ltb, leb, ◌⊎◌, List, [], ◌∷◌, ◌++◌, length, get_or, sym, refl, ap, ◌∙◌, subst, inl, inr, add-one, arith}
-use Rattle.std.proofs.lemmas.Bool.{cases_eq, cases_lt, and_parts, leb-true, lt-ltb, le-ltb, eq-eqb}
+use Rattle.std.proofs.Common.{◌≡◌, ℕ, suc, ◌+◌, ◌-◌, ◌/◌, ◌%◌, ◌<◌, ◌≤◌, true, false, ◌&&◌, eqb, ltb, leb, ◌⊎◌, List, [], ◌∷◌, ◌++◌, length, get_or, sym, refl, ap, ◌∙◌, subst, inl, inr, add-one, arith}
+use Rattle.std.proofs.lemmas.Bool.{cases_eq, cases_lt, and_parts, leb-true, lt-ltb, le-ltb, eq-eqb, true_from_ne_false, both_ways}
 use Rattle.std.proofs.lemmas.List.{get_or_append_left, get_or-append_right, length-append}
+use Rattle.std.proofs.lemmas.List.Folds.{list_all_at}
 use Rattle.rings.specs.Circles.{one_if, occ, names, put, rings}
 use Rattle.rings.specs.Law.{turn, Ringed, Closes, Along, Noded}
 use Rattle.rings.specs.Edits.{island_next, island_node, island_polygon}
@@ -19,27 +20,16 @@ use Rattle.topology.proofs.Places.{place_self, place_sym}
 
 -- a vertex of a run that is all good
 pub good_at : (run : List Vertex) → all_good run ≡ true → (i : ℕ) → i < length run → good (get_or run i no_vertex) ≡ true
-good_at [] h i l = absurd (omega arith)
-good_at (v ∷ vs) h zero l = (and_parts (good v) (all_good vs) h).0
-good_at (v ∷ vs) h (suc i) l = good_at vs (and_parts (good v) (all_good vs) h).1 i (omega arith)
+good_at run h i l = true_from_ne_false (good (get_or run i no_vertex)) (λ f. both_ways (all_good run) (list_all_at good run i no_vertex l f) h)
 
 -- the start of each side is in use
 pub row_low : (us : List Side) (vs : List Vertex) (n s : ℕ) → n % 2 ≡ 0 → RunsStand us vs n → s < n → row_of us s < length vs
 row_low us vs n s even stand l =
+    let r = stand (s / 2) (omega arith) in
     elim (cases_eq (s % 2) 0) [
-      | inl e ↦
-          let (a, q) = half s e in
-          let r = stand a (omega arith) in
-          subst (λ (k : ℕ). row_of us k < length vs) q (omega (arith, r.0, r.1))
-      | inr ne ↦
-          let (a, q) = half (s - 1) (omega arith) in
-          let r = stand a (omega arith) in
-          let e : a + a + 1 ≡ s = omega arith in
-          subst (λ (k : ℕ). row_of us k < length vs) e r.1
+      | inl e ↦ let i : s ≡ s / 2 + s / 2 = omega arith in omega (arith, r.0, r.1, ap (row_of us) i)
+      | inr ne ↦ let i : s ≡ s / 2 + s / 2 + 1 = omega arith in omega (arith, r.1, ap (row_of us) i)
     ]
-  where
-    half : (k : ℕ) → k % 2 ≡ 0 → (a : ℕ) × (a + a ≡ k)
-    half k e = (k / 2, omega arith)
 
 module _ (us : List Side) (vs run : List Vertex) (nodes polygons p : ℕ) (L : Lawful us vs (length us) nodes polygons) (known : p < polygons) (fit : closed_run run ≡ true) where
   abbrev n : ℕ

@@ -24,17 +24,13 @@ use Rattle.topology.specs.MapLaw.{PolygonsKnown, PolygonsHaveRings, EndsTogether
 use Rattle.topology.specs.Lawfuls.{Lawful}
 use Rattle.topology.specs.Islands.{all_good}
 use Rattle.topology.specs.Lifts.{closed_alone, no_other_begins, ring_left, other_under, last_polygon, polygons_left, lifted_sides}
-use Rattle.topology.specs.Joins.{run_of, joined_at, joined_sides}
+use Rattle.topology.specs.Joins.{TwoEnds, run_of, joined_at, joined_sides}
+use Rattle.topology.proofs.Growth.{run_before}
 use Rattle.topology.proofs.Alone.{no_other_from, other_found}
 use Rattle.topology.proofs.Places.{place_self}
 use Rattle.topology.proofs.IslandLaw.{row_low, good_at}
 use Rattle.topology.proofs.DissolveLaw.{fill_itself}
 use Rattle.topology.proofs.LiftLaw.{lift_lawful, lift_rings, σ-low, not_gone, row_is, next_is, node_is, alone_meets, fill_apart, own_node}
-
--- a run stays where others come after it
-pub run_before : (vs ws : List Vertex) (k n : ℕ) → k + n ≤ length vs → take n (drop k (vs ++ ws)) ≡ take n (drop k vs)
-run_before vs ws k n l =
-    same_lists _ _ (simp (length-take, length-drop, length-append) (omega arith)) (λ j d p. grind (arith, places, get_or_append_left, cases_lt (k + j) (length vs)))
 
 min_same : (p q : ℕ) → p ≡ q → min p q ≡ p
 min_same p q e = grind (arith, nat_tests)
@@ -47,14 +43,6 @@ polygon_kept : (p q last k : ℕ) → p ≡ q → last ≡ p → fill (max p q) 
 polygon_kept p q last k e i =
     fill_itself (max p q) last (fill (min p q) (max p q) k) (max_same p q e ∙ sym i)
     ∙ fill_itself (min p q) (max p q) k (min_same p q e ∙ sym (max_same p q e))
-
--- just two sides begin at a node, of two arcs
-pub record TwoEnds (us : List Side) (s t : ℕ) : Type 0 where
-  pub rising : s < t
-  pub below : t < length us
-  pub arcs : t / 2 ≡ s / 2 → ⊥
-  pub same : node_of us t ≡ node_of us s
-  pub only : (k : ℕ) → k < length us → node_of us k ≡ node_of us s → (k ≡ s) ⊎ (k ≡ t)
 
 module _ (us : List Side) (vs : List Vertex) (nodes polygons z s t first last : ℕ) (long : length us ≡ suc (suc (z + z)))
     (L : Lawful us vs (suc (suc (z + z))) nodes polygons) (two : TwoEnds us s t) where

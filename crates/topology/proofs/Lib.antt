@@ -3,7 +3,6 @@ pub mod Lowest
 pub mod Growth
 pub mod Appended
 pub mod Places
-pub mod PlaceChain
 pub mod RingTold
 pub mod Telling
 pub mod IslandLaw
@@ -31,3 +30,7 @@ pub mod FreedRows
 pub mod DissolveDone
 pub mod JoinLaw
 pub mod JoinRuns
+pub mod PushedAgain
+pub mod GoesOn
+pub mod JoinEnds
+pub mod JoinDone

@@ -1,43 +1,27 @@
--- To share a place: each finite vertex does with itself, and either way round.
-use Rattle.std.proofs.Common.{◌≡◌, ℕ, ◌*◌, Bool, true, false, ◌||◌, eqb, sym, refl, ap, ◌∙◌}
-use mathlib.Core.Bool.{beq}
-use lib.Ieee.{Float, nan, inf, fin, up, down, level, eq}
-use Rattle.std.specs.Float.{float_is_finite}
-use Rattle.std.proofs.lemmas.Bool.{and_parts, and_from, eq-eqb, eqb-true, false≢true}
+-- To share a place: each finite vertex does with itself, and two do either way round, and from one to the next.
+use Rattle.std.proofs.Common.{◌≡◌, true, inl, inr}
+use lib.Ieee.{Float, nan, inf, fin, is_nan, eq}
+use lib.Ieee.Bits.{is_true}
+use Rattle.std.specs.Float.{float_is_finite, NotNan}
+use Rattle.std.proofs.lemmas.Bool.{and_parts, and_from, false≢true}
+use Rattle.std.proofs.lemmas.Float.{T_from_true, le_refl, lt-or-eq, lt_irrefl, eq_flip, eq_trans}
 use Rattle.topology.specs.declared.vertex.Vertex.{Vertex}
 use Rattle.topology.specs.Rows.{good, same_place}
 
-level_self : (s : Bool) (a : ℕ) → level s a s a ≡ true
-level_self true a = rw (eq-eqb a a refl) refl
-level_self false a = rw (eq-eqb a a refl) refl
-
-level_sym : (s t : Bool) (a b : ℕ) → level s a t b ≡ true → level t b s a ≡ true
-level_sym s t a b h = let (e, k) = and_parts (eqb a b) (beq s t || eqb a 0) h in go s t (eqb-true a b e) k
-  where
-    go : (s t : Bool) → a ≡ b → (beq s t || eqb a 0) ≡ true → level t b s a ≡ true
-    go true true e k = and_from (eqb b a) true (eq-eqb b a (sym e)) refl
-    go false false e k = and_from (eqb b a) true (eq-eqb b a (sym e)) refl
-    go true false e k = and_from (eqb b a) (eqb b 0) (eq-eqb b a (sym e)) (ap (λ j. eqb j 0) (sym e) ∙ k)
-    go false true e k = and_from (eqb b a) (eqb b 0) (eq-eqb b a (sym e)) (ap (λ j. eqb j 0) (sym e) ∙ k)
+finite_number : (x : Float) → float_is_finite x ≡ true → NotNan x
+unfolding is_nan float_is_finite
+finite_number nan h = absurd (false≢true h)
+finite_number (inf s) h = tt
+finite_number (fin s m e) h = tt
 
 eq_self : (x : Float) → float_is_finite x ≡ true → eq x x ≡ true
-unfolding eq float_is_finite
-eq_self nan h = absurd (false≢true h)
-eq_self (inf s) h = absurd (false≢true h)
-eq_self (fin s m e) h = level_self s (m * up e * down e)
+eq_self x h = is_true (eq x x) (elim (lt-or-eq x x (le_refl x (finite_number x h))) [ inl l ↦ absurd (lt_irrefl x l) | inr e ↦ e ])
 
 eq_sym : (x y : Float) → eq x y ≡ true → eq y x ≡ true
-unfolding eq
-eq_sym nan y h = absurd (false≢true h)
-eq_sym (inf s) nan h = absurd (false≢true h)
-eq_sym (inf true) (inf true) h = refl
-eq_sym (inf true) (inf false) h = absurd (false≢true h)
-eq_sym (inf false) (inf true) h = absurd (false≢true h)
-eq_sym (inf false) (inf false) h = refl
-eq_sym (inf s) (fin t n d) h = absurd (false≢true h)
-eq_sym (fin s m e) nan h = absurd (false≢true h)
-eq_sym (fin s m e) (inf t) h = absurd (false≢true h)
-eq_sym (fin s m e) (fin t n d) h = level_sym s t (m * up e * down d) (n * up d * down e) h
+eq_sym x y h = is_true (eq y x) (eq_flip x y (T_from_true (eq x y) h))
+
+eq_chain : (x y z : Float) → eq x y ≡ true → eq y z ≡ true → eq x z ≡ true
+eq_chain x y z h k = is_true (eq x z) (eq_trans x y z (T_from_true (eq x y) h) (T_from_true (eq y z) k))
 
 pub place_self : (v : Vertex) → good v ≡ true → same_place v v ≡ true
 place_self v h =
@@ -48,3 +32,9 @@ pub place_sym : (u v : Vertex) → same_place u v ≡ true → same_place v u �
 place_sym u v h =
     let (p, q) = and_parts (eq u.x v.x) (eq u.y v.y) h in
     and_from (eq v.x u.x) (eq v.y u.y) (eq_sym u.x v.x p) (eq_sym u.y v.y q)
+
+pub place_chain : (u v w : Vertex) → same_place u v ≡ true → same_place v w ≡ true → same_place u w ≡ true
+place_chain u v w h k =
+    let (a, b) = and_parts (eq u.x v.x) (eq u.y v.y) h in
+    let (c, d) = and_parts (eq v.x w.x) (eq v.y w.y) k in
+    and_from (eq u.x w.x) (eq u.y w.y) (eq_chain u.x v.x w.x a c) (eq_chain u.y v.y w.y b d)

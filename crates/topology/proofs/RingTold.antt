@@ -1,7 +1,7 @@
 -- The sides of a ring told their polygon and lowest side, field by field.
 use Rattle.std.proofs.Common.{◌≡◌, ℕ, ◌<◌, ◌≤◌, Bool, true, false, cond, eqb, List, [], ◌∷◌, length, get_or, sym, refl, ap, ◌∙◌, inl, inr, arith, min}
 use mathlib.Core.Path.{fun_ext}
-use Rattle.std.proofs.lemmas.Bool.{cases_eq, cases_lt}
+use Rattle.std.proofs.lemmas.Bool.{cases_eq, cases_lt, cond_both}
 use Rattle.std.proofs.lemmas.List.{get_or_past}
 use Rattle.std.proofs.lemmas.List.FromFn.{length-map-range_with_len, get_or-map-range_with_len}
 use Rattle.rings.specs.Circles.{one_if, occ, meets}
@@ -14,10 +14,6 @@ use Rattle.topology.proofs.Appended.{field}
 either_way : (F : Side → ℕ) (b : Bool) (r s : Side) → F (cond b r s) ≡ cond b (F r) (F s)
 either_way F true r s = refl
 either_way F false r s = refl
-
-both_same : (b : Bool) (x : ℕ) → cond b x x ≡ x
-both_same true x = refl
-both_same false x = refl
 
 module _ (us : List Side) (s polygon : ℕ) where
   pub told_long : length (ring_told us s polygon) ≡ length us
@@ -46,7 +42,7 @@ module _ (us : List Side) (s polygon : ℕ) where
             let r = get_or us k no_side in
             let b = meets (next_of us) (length us) s k in
             ap F (told_row k l)
-            ∙ (either_way F b (told_side polygon (ring_low us s) r) r ∙ (ap (λ (v : ℕ). cond b v (F r)) (same r) ∙ both_same b (F r)))
+            ∙ (either_way F b (told_side polygon (ring_low us s) r) r ∙ (ap (λ (v : ℕ). cond b v (F r)) (same r) ∙ cond_both b _ _ (λ (v : ℕ). v ≡ F r) (λ _. refl) (λ _. refl)))
         | inr g ↦ ap F (get_or_past (ring_told us s polygon) k no_side (omega (arith, told_long)) ∙ sym (get_or_past us k no_side g))
       ])
 

@@ -1,9 +1,10 @@
 -- The rows after a split, as functions of the side.
-use Rattle.std.proofs.Common.{◌≡◌, ℕ, zero, suc, ◌+◌, ◌<◌, eqb, List, [], ◌∷◌, ◌++◌, map, length, get_or, set, sym, refl, ap, ◌∙◌, inl, inr, add-one, arith}
+use Rattle.std.proofs.Common.{◌≡◌, ℕ, suc, ◌+◌, ◌<◌, eqb, List, [], ◌∷◌, ◌++◌, length, get_or, set, sym, ap, ◌∙◌, inl, inr, add-one, arith}
 use mathlib.Core.Path.{fun_ext}
 use Rattle.std.proofs.lemmas.Bool.{cases_eq, cases_lt, cond-false, ne_eqb}
 use Rattle.std.proofs.lemmas.List.{get_or-set_same, get_or-set_other, get_or_past, length-set, length-map, length-append}
 use Rattle.std.proofs.lemmas.Bool.Decides.{nat_tests}
+use Rattle.std.proofs.Math.ListN.{get_or-map}
 use Rattle.rings.specs.Circles.{put}
 use Rattle.rings.specs.Law.{opp}
 use Rattle.rings.specs.Edits.{split_next, split_node, split_polygon, fill}
@@ -12,12 +13,6 @@ use Rattle.topology.specs.declared.side.Side.{Side}
 use Rattle.topology.specs.Rows.{no_side, next_of, node_of, polygon_of, row_of, low_of}
 use Rattle.topology.specs.Splits.{leading, beginning, led, rows_led, split_sides}
 use Rattle.topology.proofs.Appended.{field, field_two}
-
--- a row of changed rows is the row, changed
-pub map_at : {X : Type 0} (F : X → X) (xs : List X) (k : ℕ) (d : X) → F d ≡ d → get_or (map F xs) k d ≡ F (get_or xs k d)
-map_at F [] k d e = sym e
-map_at F (x ∷ xs) zero d e = refl
-map_at F (x ∷ xs) (suc k) d e = map_at F xs k d e
 
 -- two rows set, and two more appended
 module _ (F : Side → ℕ) (rs : List Side) (n s o : ℕ) (x y u v : Side) (long : length rs ≡ n) (ls : s < n) (lo : o < n) where
@@ -90,7 +85,7 @@ module _ (us : List Side) (nodes a row p : ℕ) (here : a + a + 1 < length us) (
   blank = ap (λ (k : ℕ). leading k no_side) (cond-false (eqb 0 o) (n + 1) 0 (ne_eqb 0 o (omega arith)))
 
   pub led_at : (k : ℕ) → get_or rs k no_side ≡ R (get_or us k no_side)
-  led_at k = map_at R us k no_side blank
+  led_at k = ap (get_or rs k) (sym blank) ∙ get_or-map R us k no_side
 
   abbrev x : Side
   x = leading n (R (get_or us s no_side))

@@ -2,7 +2,7 @@
 use Rattle.std.proofs.Common.{◌≡◌, ℕ, ◌+◌, ◌<◌, ◌≤◌, eqb, List, [], ◌∷◌, ◌++◌, length, get_or, take, drop, set, sym, ap, ◌∙◌, inl, inr, arith}
 use lib.Seq.{take-set-lt}
 use Rattle.std.proofs.lemmas.Bool.{cases_eq, cond-true, cond-false, eq-eqb, ne_eqb}
-use Rattle.std.proofs.lemmas.List.{get_or-set_same, get_or-set_other, length-set, length-map, same_lists, drop-set-lt, get_or_default, length-take-le, get_or-take}
+use Rattle.std.proofs.lemmas.List.{get_or-set_same, get_or-set_other, length-set, length-map, drop-set-lt, length-take-le, get_or-take, ext_get_or}
 use Rattle.rings.specs.Circles.{rings}
 use Rattle.rings.proofs.Ringed.{ringed_circles}
 use Rattle.rings.proofs.Closed.{one_image}
@@ -52,7 +52,7 @@ module _ (full : List Side) (n a node row p : ℕ) (fit : n ≤ length full) (he
   one_is =
       take-set-lt n full p (leading (n + 1) (get_or full p no_side)) lp
       ∙ (ap (set us p) at_p
-      ∙ same_rows (set us p (R p)) (rows_led us a) (length-set us p (R p) ∙ sym (length-map us (led o (length us + 1))))
+      ∙ ext_get_or no_side (set us p (R p)) (rows_led us a) (length-set us p (R p) ∙ sym (length-map us (led o (length us + 1))))
       (λ k l.
       elim (cases_eq k p) [
         | inl q ↦
@@ -60,9 +60,6 @@ module _ (full : List Side) (n a node row p : ℕ) (fit : n ≤ length full) (he
             ∙ (get_or-set_same us p (R p) no_side (omega (arith, us_long)) ∙ sym (ap (λ (j : ℕ). get_or (rows_led us a) j no_side) q ∙ led_row p))
         | inr ne ↦ get_or-set_other us p k (R p) no_side ne ∙ (sym (at_other k (omega (arith, l, length-set us p (R p))) ne) ∙ sym (led_row k))
       ]))
-    where
-      same_rows : (xs ys : List Side) → length xs ≡ length ys → ((k : ℕ) → k < length xs → get_or xs k no_side ≡ get_or ys k no_side) → xs ≡ ys
-      same_rows xs ys e h = same_lists xs ys e (λ k d l. get_or_default xs k d no_side l ∙ (h k l ∙ sym (get_or_default ys k d no_side (omega (arith, l, e)))))
 
   abbrev first : Side
   first = beginning node row (get_or one s no_side)

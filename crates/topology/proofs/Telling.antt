@@ -1,7 +1,7 @@
 -- A walk along a ring: the lowest side found, and each side told its polygon and lowest side.
-use Rattle.std.proofs.Common.{◌≡◌, ℕ, suc, ◌+◌, ◌-◌, ◌<◌, ◌≤◌, Bool, true, false, cond, List, map, length, get_or, set, sym, refl, ap, ◌∙◌, subst, inl, inr, min, arith}
+use Rattle.std.proofs.Common.{◌≡◌, ℕ, suc, ◌+◌, ◌-◌, ◌<◌, ◌≤◌, Bool, cond, List, map, length, get_or, set, sym, refl, ap, ◌∙◌, subst, inl, inr, min, arith}
 use Rattle.std.specs.List.{range_with_len}
-use Rattle.std.proofs.lemmas.Bool.{cases_eq}
+use Rattle.std.proofs.lemmas.Bool.{cases_eq, cond_both}
 use Rattle.std.proofs.lemmas.List.{length-set, get_or-set_same, get_or-set_other}
 use Rattle.std.proofs.lemmas.List.FromFn.{fill_by_all}
 use Rattle.rings.specs.Circles.{walk, ahead, rings}
@@ -31,10 +31,6 @@ pub record Telling (old rows : List Side) (s here polygon low i : ℕ) : Type 0 
       cond (ahead (next_of old) (length old - i) s here k) (told_side polygon low (get_or rows k no_side)) (get_or rows k no_side)
       ≡ told_at old s polygon low k
 
-cond_same : (b : Bool) (r : Side) → cond b r r ≡ r
-cond_same true r = refl
-cond_same false r = refl
-
 module _ (rows : List Side) (f : ℕ → ℕ) (s p polygon low : ℕ) (l : p < length rows) where
   abbrev after : List Side
   after = set rows p (told_side polygon low (get_or rows p no_side))
@@ -51,7 +47,7 @@ module _ (rows : List Side) (f : ℕ → ℕ) (s p polygon low : ℕ) (l : p < l
       elim (cases_eq k p) [
         | inl i ↦
             ap (λ (r : Side). cond (ahead f m s (f p) k) (tell r) r) (ap (λ (j : ℕ). get_or after j no_side) i ∙ at_here)
-            ∙ (cond_same (ahead f m s (f p) k) (tell (get_or rows p no_side))
+            ∙ (cond_both (ahead f m s (f p) k) _ _ (λ (r : Side). r ≡ tell (get_or rows p no_side)) (λ _. refl) (λ _. refl)
             ∙ (ap (λ (j : ℕ). tell (get_or rows j no_side)) (sym i) ∙ sym (ap (λ (b : Bool). cond b (tell (get_or rows k no_side)) (get_or rows k no_side)) (ahead_here f fuel s p k (sym i)))))
         | inr n ↦
             ap (λ (r : Side). cond (ahead f m s (f p) k) (tell r) r) (get_or-set_other rows p k (tell (get_or rows p no_side)) no_side n)

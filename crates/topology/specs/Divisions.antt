@@ -1,5 +1,5 @@
 -- Division: an arc between the starts of two sides of one ring makes two rings of it.
-use Rattle.std.specs.Prelude.{◌≡◌, ℕ, ◌+◌, ◌-◌, ◌<◌, Bool, false, cond, ◌&&◌, List, [], ◌∷◌, ◌++◌, map, length, Ok, Err, Result, ◌==◌, nat_le, nat_lt, slice_index_or, min}
+use Rattle.std.specs.Prelude.{◌≡◌, ℕ, ◌+◌, ◌-◌, ◌<◌, Bool, false, cond, ◌&&◌, List, [], ◌∷◌, ◌++◌, map, length, Ok, Err, Result, ◌==◌, nat_le, nat_lt, slice_index_or, min, fold}
 use Rattle.std.specs.List.{range_with_len}
 use Rattle.refusal.specs.declared.Refusal.{Refusal}
 use Rattle.refusal.specs.declared.Refusal.TheVariants.{NoSuchElement, SidesInTwoRings, UnfitRun, RunEndsElsewhere, NoRoom}
@@ -15,8 +15,7 @@ use Rattle.topology.specs.Islands.{all_good, arc_room, vertex_room}
 
 -- the lowest of a number and those of a list
 abbrev pub lowest_of : ℕ → List ℕ → ℕ
-lowest_of x [] = x
-lowest_of x (y ∷ ys) = lowest_of (min x y) ys
+lowest_of x ys = fold min x ys
 
 -- the lowest side of the ring of s
 abbrev pub ring_low : List Side → ℕ → ℕ

@@ -1,5 +1,5 @@
 -- Join: two arcs that meet at a node where no other ends become one.
-use Rattle.std.specs.Prelude.{◌≡◌, ℕ, ◌+◌, ◌-◌, ◌/◌, ◌%◌, ◌<◌, Bool, false, cond, not, List, [], ◌∷◌, ◌++◌, map, length, drop, reverse, Ok, Err, Result, ◌==◌, nat_lt, slice_index_or, slice_range}
+use Rattle.std.specs.Prelude.{◌≡◌, ℕ, ◌+◌, ◌-◌, ◌/◌, ◌%◌, ◌<◌, Bool, false, cond, not, List, [], ◌∷◌, ◌++◌, map, length, drop, reverse, Ok, Err, Result, ◌==◌, ◌≢◌, ◌⊎◌, nat_lt, slice_index_or, slice_range}
 use Rattle.std.specs.List.{range_with_len}
 use Rattle.refusal.specs.declared.Refusal.{Refusal}
 use Rattle.refusal.specs.declared.Refusal.TheVariants.{NoSuchElement, NotTwoEndsOfTwoArcs, NoRoom}
@@ -26,9 +26,21 @@ of_two_arcs (s ∷ []) = false
 of_two_arcs (s ∷ t ∷ []) = not (t / 2 == s / 2)
 of_two_arcs (s ∷ t ∷ u ∷ more) = false
 
+-- only s and t begin at their node, and they are of two arcs, s of the lower one
+pub record TwoEnds (us : List Side) (s t : ℕ) : Type 0 where
+  pub rising : s < t
+  pub below : t < length us
+  pub arcs : t / 2 ≢ s / 2
+  pub same : node_of us t ≡ node_of us s
+  pub only : (k : ℕ) → k < length us → node_of us k ≡ node_of us s → (k ≡ s) ⊎ (k ≡ t)
+
 -- the vertices of arc a
 abbrev pub run_of : List Side → List Vertex → ℕ → List Vertex
 run_of us vs a = slice_range vs (row_of us (a + a)) (row_of us (a + a + 1) + 1)
+
+-- a list, or the list backwards
+abbrev pub turned_if : {X : Type 0} → Bool → List X → List X
+turned_if b xs = cond b (reverse xs) xs
 
 -- the vertices along side s
 abbrev pub along : List Side → List Vertex → ℕ → List Vertex

@@ -11,16 +11,22 @@ use super::vertex::Vertex;
 use refusal::Refusal;
 
 impl<'a> Map<'a> {
+    // Whether there is room for so many vertices more.
+    pub(crate) fn has_vertex_room(&self, vertices: usize) -> bool
+        ensures { result ≡ vertex_room (state_of self.now) vertices }
+    {
+        let used = self.vertices.used;
+        vertices <= self.vertices.rows.len() - used && vertices <= 1048576 - used
+    }
+
     // Whether there is room for one arc more, with so many vertices more.
     pub(crate) fn has_room(&self, vertices: usize) -> bool
         ensures { result ≡ (arc_room (state_of self.now) && vertex_room (state_of self.now) vertices) }
     {
-        let n = self.sides.used;
-        let v = self.vertices.used;
-        n + 2 <= self.sides.rows.len()
-            && n + 2 <= 32768
-            && vertices <= 1048576 - v
-            && vertices <= self.vertices.rows.len() - v
+        let used = self.sides.used;
+        used + 2 <= self.sides.rows.len()
+            && used + 2 <= 32768
+            && self.has_vertex_room(vertices)
     }
 
     // Adds an island of a run that makes a closed arc.

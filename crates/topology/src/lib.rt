@@ -7,6 +7,7 @@ mod dividing;
 mod divisions;
 pub mod hand;
 mod islands;
+mod joins;
 mod lifts;
 pub mod map;
 pub mod merging;
