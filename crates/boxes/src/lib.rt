@@ -5,3 +5,4 @@ pub mod bounds;
 pub mod boxes;
 pub mod doubles;
 pub mod edges;
+pub mod wording;

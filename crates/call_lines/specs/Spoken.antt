@@ -4,15 +4,17 @@ use Rattle.std.specs.Float.Parse.{is_float_text}
 use Rattle.std.specs.declared.alloc.Global.{Global}
 use Rattle.std.specs.List.{list_all, position_or_len, before_first, after_first}
 use Rattle.std.specs.Str.{bytes_eq}
+use Rattle.topology.specs.declared.arc_side.ArcSide.{ArcSide}
+use Rattle.topology.specs.declared.arc_side.ArcSide.TheVariants.{Unturned, Turned}
 use Rattle.topology.specs.declared.vertex.Vertex.{Vertex}
 use Rattle.topology.specs.Rows.{no_vertex}
 use Rattle.line_words.specs.LineWords.{word}
 use Rattle.words.specs.Words.{whole_of, Decimal}
 use Rattle.calls.specs.declared.call.Call.{Call}
-use Rattle.calls.specs.declared.call.Call.TheVariants.{Island, Lift, Divide, List as Listing, Counts, Ring, Side, Arc, Vertex as VertexOf}
+use Rattle.calls.specs.declared.call.Call.TheVariants.{Island, Lift, Split, Divide, Dissolve, Join, List as Listing, Counts, Ring, Side, Arc, Vertex as VertexOf}
 use Rattle.calls.specs.Outcomes.{with_run}
 use Rattle.call_lines.specs.declared.expected.Expected.{Expected}
-use Rattle.call_lines.specs.declared.expected.Expected.TheVariants.{AnyCall, IslandCall, LiftCall, ListCall, CountsCall, RingCall, SideCall, ArcCall, VertexCall}
+use Rattle.call_lines.specs.declared.expected.Expected.TheVariants.{AnyCall, IslandCall, LiftCall, SplitCall, DivideCall, DissolveCall, JoinCall, ListCall, CountsCall, RingCall, SideCall, ArcCall, VertexCall}
 use Rattle.call_lines.specs.declared.fault.LineFault.{LineFault}
 use Rattle.call_lines.specs.declared.fault.LineFault.TheVariants.{NoMemory, NoCall}
 
@@ -21,13 +23,17 @@ abbrev pub verb_of : List ℕ → Expected
 verb_of w =
     cond (bytes_eq w (codes "island")) IslandCall
     (cond (bytes_eq w (codes "lift")) LiftCall
+    (cond (bytes_eq w (codes "split")) SplitCall
+    (cond (bytes_eq w (codes "divide")) DivideCall
+    (cond (bytes_eq w (codes "dissolve")) DissolveCall
+    (cond (bytes_eq w (codes "join")) JoinCall
     (cond (bytes_eq w (codes "list")) ListCall
     (cond (bytes_eq w (codes "counts")) CountsCall
     (cond (bytes_eq w (codes "ring")) RingCall
     (cond (bytes_eq w (codes "side")) SideCall
     (cond (bytes_eq w (codes "arc")) ArcCall
     (cond (bytes_eq w (codes "vertex")) VertexCall
-    AnyCall)))))))
+    AnyCall)))))))))))
 
 -- what stands before and after the first comma, where there is one
 abbrev pub coordinates : List ℕ → Option (List ℕ × List ℕ)
@@ -56,25 +62,43 @@ paired (Some m) (Some n) = Some (m, n)
 abbrev pub two : List (List ℕ) → Option (ℕ × ℕ)
 two ws = cond (length ws == 3) (paired (whole_of (word ws 1)) (whole_of (word ws 2))) None
 
--- a whole number, and then any number of vertices
-abbrev pub and_run : Option ℕ → List (List ℕ) → Option (ℕ × List (List ℕ))
-and_run None ws = None
-and_run (Some p) ws = cond (list_all is_vertex ws) (Some (p, ws)) None
+-- + names the unturned new side of a division, - the turned one
+abbrev pub named_side : List ℕ → Option ArcSide
+named_side w = cond (bytes_eq w (codes "+")) (Some Unturned) (cond (bytes_eq w (codes "-")) (Some Turned) None)
 
-abbrev pub one_and_run : List (List ℕ) → Option (ℕ × List (List ℕ))
-one_and_run ws = and_run (whole_of (word ws 1)) (drop 2 ws)
+abbrev pub sides_named : Option (ℕ × ℕ) → Option ArcSide → Option (ℕ × ℕ × ArcSide)
+sides_named None named = None
+sides_named (Some p) None = None
+sides_named (Some p) (Some named) = Some (p.0, p.1, named)
+
+-- two sides, and the named new side
+abbrev pub division_sides : List (List ℕ) → Option (ℕ × ℕ × ArcSide)
+division_sides ws = sides_named (paired (whole_of (word ws 1)) (whole_of (word ws 2))) (named_side (word ws 3))
+
+-- what stands before a run, and then any number of vertices
+abbrev pub and_run : {A : Type 0} → Option A → List (List ℕ) → Option (A × List (List ℕ))
+and_run None ws = None
+and_run (Some a) ws = cond (list_all is_vertex ws) (Some (a, ws)) None
+
+-- the call without a run that words make, the first of them known
+abbrev pub runless_call : {R : Type 0} → Expected → List (List ℕ) → Option (Call R)
+runless_call LiftCall ws = option_map (λ a. Lift a) (one ws)
+runless_call SplitCall ws = option_map (λ a. Split a.0 a.1) (two ws)
+runless_call DissolveCall ws = option_map (λ a. Dissolve a) (one ws)
+runless_call JoinCall ws = option_map (λ v. Join v) (one ws)
+runless_call ListCall ws = option_map (λ _. Listing) (none ws)
+runless_call CountsCall ws = option_map (λ _. Counts) (none ws)
+runless_call RingCall ws = option_map (λ k. Ring k) (one ws)
+runless_call SideCall ws = option_map (λ s. Side s) (one ws)
+runless_call ArcCall ws = option_map (λ a. Arc a) (one ws)
+runless_call VertexCall ws = option_map (λ a. VertexOf a.0 a.1) (two ws)
+runless_call _ ws = None
 
 -- the call that words make, the first of them known; the vertices of its run still as words
 abbrev pub call_of : Expected → List (List ℕ) → Option (Call (List (List ℕ)))
-call_of AnyCall ws = None
-call_of IslandCall ws = option_map (λ a. Island a.0 a.1) (one_and_run ws)
-call_of LiftCall ws = option_map (λ a. Lift a) (one ws)
-call_of ListCall ws = option_map (λ _. Listing) (none ws)
-call_of CountsCall ws = option_map (λ _. Counts) (none ws)
-call_of RingCall ws = option_map (λ k. Ring k) (one ws)
-call_of SideCall ws = option_map (λ s. Side s) (one ws)
-call_of ArcCall ws = option_map (λ a. Arc a) (one ws)
-call_of VertexCall ws = option_map (λ a. VertexOf a.0 a.1) (two ws)
+call_of IslandCall ws = option_map (λ a. Island a.0 a.1) (and_run (whole_of (word ws 1)) (drop 2 ws))
+call_of DivideCall ws = option_map (λ a. Divide a.0.0 a.0.1 a.1 a.0.2) (and_run (division_sides ws) (drop 4 ws))
+call_of verb ws = runless_call verb ws
 
 -- a line is passed over where its first word begins with #, and where it has none
 abbrev pub passes : List ℕ → Bool

@@ -9,6 +9,10 @@ pub enum Expected {
     AnyCall,
     IslandCall,
     LiftCall,
+    SplitCall,
+    DivideCall,
+    DissolveCall,
+    JoinCall,
     ListCall,
     CountsCall,
     RingCall,
@@ -25,6 +29,10 @@ impl From<&str> for Expected {
         match word {
             "island" => Expected::IslandCall,
             "lift" => Expected::LiftCall,
+            "split" => Expected::SplitCall,
+            "divide" => Expected::DivideCall,
+            "dissolve" => Expected::DissolveCall,
+            "join" => Expected::JoinCall,
             "list" => Expected::ListCall,
             "counts" => Expected::CountsCall,
             "ring" => Expected::RingCall,
@@ -39,9 +47,15 @@ impl From<&str> for Expected {
 impl fmt::Display for Expected {
     fn fmt<W: fmt::Write>(&self, f: &mut fmt::Formatter<W>) -> fmt::Result {
         f.write_str(match self {
-            Expected::AnyCall => "island, lift, list, counts, ring, side, arc or vertex",
+            Expected::AnyCall => {
+                "island, lift, split, join, divide, dissolve, list, counts, ring, side, arc or vertex"
+            }
             Expected::IslandCall => "island POLYGON X,Y X,Y ..",
             Expected::LiftCall => "lift ARC",
+            Expected::SplitCall => "split ARC VERTEX",
+            Expected::DivideCall => "divide SIDE SIDE +|- X,Y X,Y ..",
+            Expected::DissolveCall => "dissolve ARC",
+            Expected::JoinCall => "join NODE",
             Expected::ListCall => "list",
             Expected::CountsCall => "counts",
             Expected::RingCall => "ring RING",

@@ -13,9 +13,10 @@ use Rattle.topology.specs.Lifts.{lift_outcome}
 use Rattle.topology.specs.Splits.{split_outcome}
 use Rattle.topology.specs.Divisions.{divide_outcome}
 use Rattle.topology.specs.Dissolves.{dissolve_outcome}
+use Rattle.topology.specs.Joins.{join_outcome}
 use Rattle.listing.specs.Texts.{listing, text_outcome, text_leaves}
 use Rattle.calls.specs.declared.call.Call.{Call}
-use Rattle.calls.specs.declared.call.Call.TheVariants.{Island, Lift, Split, Divide, Dissolve, List as Listing, Counts, Ring, Side, Arc, Vertex as VertexOf}
+use Rattle.calls.specs.declared.call.Call.TheVariants.{Island, Lift, Split, Divide, Dissolve, Join, List as Listing, Counts, Ring, Side, Arc, Vertex as VertexOf}
 use Rattle.calls.specs.declared.answer.Answer.{Answer}
 use Rattle.calls.specs.declared.answer.Answer.TheVariants.{Done, Listed, Counts as Counted, Ring as RingIs, Side as SideIs, Arc as ArcHas, Vertex as VertexIs}
 
@@ -26,6 +27,7 @@ with_run f (Lift a) = Lift a
 with_run f (Split a k) = Split a k
 with_run f (Divide s t run named) = Divide s t (f run) named
 with_run f (Dissolve a) = Dissolve a
+with_run f (Join v) = Join v
 with_run f Listing = Listing
 with_run f Counts = Counts
 with_run f (Ring k) = Ring k
@@ -68,6 +70,7 @@ outcome (Lift a) m text = edit m text (lift_outcome m a)
 outcome (Split a k) m text = edit m text (split_outcome m a k)
 outcome (Divide s t run named) m text = edit m text (divide_outcome m s t run named)
 outcome (Dissolve a) m text = edit m text (dissolve_outcome m a)
+outcome (Join v) m text = edit m text (join_outcome m v)
 outcome Listing m text = record { answer = told (λ n. Listed n) (text_outcome (listing m) (length text)); state = m; text = text_leaves (listing m) text }
 outcome Counts m text = ask m text (Ok (counts m))
 outcome (Ring k) m text = ask m text (told (λ p. RingIs p.0 p.1) (ring_at m k))

@@ -28,6 +28,10 @@ pub enum Call<R> {
     Dissolve {
         arc: usize,
     },
+    /// has two arcs become one at a node where just their two ends lie
+    Join {
+        node: usize,
+    },
     /// asks for the map as text
     List,
     /// asks how many arcs, nodes, polygons and rings there are

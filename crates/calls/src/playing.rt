@@ -1,6 +1,7 @@
 ghost use Rattle.std.specs.Prelude.{◌≡◌};
 ghost use Rattle.topology.specs.States.{state_of};
-ghost use Rattle.calls.specs.Outcomes.{side_answer, with_run, Played};
+ghost use Rattle.calls.specs.declared.answer.Answer.TheVariants.{Done};
+ghost use Rattle.calls.specs.Outcomes.{told, side_answer, with_run, Played};
 
 use super::answer::Answer;
 use super::call::Call;
@@ -9,6 +10,14 @@ use refusal::Refusal;
 use std::convert::AsSlice;
 use topology::map::Map;
 use topology::vertex::Vertex;
+
+// What an edit answers.
+fn done(outcome: Result<(), Refusal>) -> Result<Answer, Refusal>
+    ensures { result ≡ told (λ _. Done) outcome }
+{
+    outcome?;
+    Ok(Answer::Done)
+}
 
 // The answer to the question about a side.
 fn side_answer(map: &Map, side: usize) -> Result<Answer, Refusal>
@@ -30,20 +39,17 @@ pub fn play<R: AsSlice<Vertex>>(
     ensures { Played (with_run R.items call.now) map.old map.new text.old text.new result }
 {
     match call {
-        Call::Island { polygon, run } => map
-            .island(*polygon, run.as_slice())
-            .map(|()| Answer::Done),
-        Call::Lift { arc } => map.lift(*arc).map(|()| Answer::Done),
-        Call::Split { arc, vertex } => map.split(*arc, *vertex).map(|()| Answer::Done),
+        Call::Island { polygon, run } => done(map.island(*polygon, run.as_slice())),
+        Call::Lift { arc } => done(map.lift(*arc)),
+        Call::Split { arc, vertex } => done(map.split(*arc, *vertex)),
         Call::Divide {
             first,
             second,
             run,
             named,
-        } => map
-            .divide(*first, *second, run.as_slice(), *named)
-            .map(|()| Answer::Done),
-        Call::Dissolve { arc } => map.dissolve(*arc).map(|()| Answer::Done),
+        } => done(map.divide(*first, *second, run.as_slice(), *named)),
+        Call::Dissolve { arc } => done(map.dissolve(*arc)),
+        Call::Join { node } => done(map.join(*node)),
         Call::List => list(map, text).map(Answer::Listed),
         Call::Counts => Ok(Answer::Counts {
             arcs: map.arcs(),

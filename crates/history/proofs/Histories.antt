@@ -16,10 +16,12 @@ use Rattle.topology.specs.Lifts.{lift_outcome}
 use Rattle.topology.specs.Splits.{split_outcome}
 use Rattle.topology.specs.Divisions.{divide_outcome}
 use Rattle.topology.specs.Dissolves.{dissolve_outcome}
+use Rattle.topology.specs.Joins.{join_outcome}
 use Rattle.topology.proofs.Settled.{Kept, island_kept, lift_kept}
 use Rattle.topology.proofs.SettledSplits.{split_kept, divide_kept, dissolve_kept}
+use Rattle.topology.proofs.JoinStates.{join_kept}
 use Rattle.calls.specs.declared.call.Call.{Call}
-use Rattle.calls.specs.declared.call.Call.TheVariants.{Island, Lift, Split, Divide, Dissolve}
+use Rattle.calls.specs.declared.call.Call.TheVariants.{Island, Lift, Split, Divide, Dissolve, Join}
 use Rattle.calls.specs.Outcomes.{edit}
 use Rattle.history.specs.Runs.{World, after, replayed}
 use Rattle.history.specs.Law.{InOrder, islands_by, lifts_by, islands, lifts, HistoryLaw}
@@ -71,6 +73,9 @@ one_call w (Divide i j run named) s =
     (r.0, omega (arith, r.1))
 one_call w (Dissolve a) s =
     let r = took w 0 0 (dissolve_outcome w.state a) (dissolve_kept w.state a s) in
+    (r.0, omega (arith, r.1))
+one_call w (Join v) s =
+    let r = took w 0 0 (join_outcome w.state v) (join_kept w.state v s) in
     (r.0, omega (arith, r.1))
 one_call w _ s = still w w.text s
 

@@ -2,6 +2,7 @@ ghost use Rattle.std.specs.Prelude.{◌≡◌, Some};
 ghost use Rattle.record_answer.specs.declared.unanswered.Unanswered.TheVariants.{NoMemory, Refused};
 ghost use Rattle.record_answer.specs.Unanswering.{unanswered_text};
 
+use boxes::wording::NODES_HAVE_NO_BOXES;
 use refusal::Refusal;
 use std::alloc::AllocError;
 use std::error::Error;
@@ -41,9 +42,7 @@ impl fmt::Display for Unanswered {
         match self {
             Unanswered::NoMemory => f.write_str("no memory for the report"),
             Unanswered::Refused(refusal) => write!(f, "{refusal}"),
-            Unanswered::NoBoxes => f.write_str(
-                "nodes have no boxes, so a NOD file cannot be searched by window",
-            ),
+            Unanswered::NoBoxes => f.write_str(NODES_HAVE_NO_BOXES),
         }
     }
 }

@@ -8,6 +8,7 @@ ghost use Rattle.line_words.specs.LineWords.{texts, word};
 ghost use Rattle.record_request.specs.Requests.{arcs_option, corners, WindowGiven, is_new, options, Gives, asked, Answers};
 
 use boxes::edges::Edges;
+use boxes::wording::NODES_HAVE_NO_BOXES;
 use line_words::texts::{after, text_at};
 use std::error::Error;
 use std::fmt;
@@ -40,7 +41,7 @@ impl fmt::Display for Fault {
             Fault::Letter => "the letter is one character: T, A, N or P",
             Fault::Arcs => "--arcs takes a whole number from 0 to 18446744073709551615",
             Fault::Window => "--window takes four decimal numbers: MIN_X MAX_X MIN_Y MAX_Y",
-            Fault::NoBoxes => "nodes have no boxes, so a NOD file cannot be searched by window",
+            Fault::NoBoxes => NODES_HAVE_NO_BOXES,
         })
     }
 }

@@ -11,7 +11,6 @@ pub mod Rename
 pub mod Island
 pub mod Words
 pub mod Walks
-pub mod Undo
 pub mod Opposites
 pub mod Lows
 pub mod Exchange
@@ -22,7 +21,6 @@ pub mod Labels
 pub mod Ringwise
 pub mod Division
 pub mod TwoRings
-pub mod Join
 pub mod SplitRings
 pub mod SetFree
 pub mod SameLow

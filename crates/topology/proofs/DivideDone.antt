@@ -30,7 +30,7 @@ use Rattle.topology.proofs.DivideLaw.{linked_long, linked_rings, next', long', r
 held_rings : (w t : Table Side) (xs : List Side) → Holds w t xs → Ringed (next_of xs) (length xs) → InRings (take t.used t.rows.now) t.used
 held_rings w t xs h r = subst (λ (k : ℕ). Ringed (next_of (take t.used t.rows.now)) k) (sym (held_used w t xs h)) (subst (λ (ys : List Side). Ringed (next_of ys) (length xs)) (sym h.rows) r)
 
-pub told_rings : (xs : List Side) (s p : ℕ) → Ringed (next_of xs) (length xs) → Ringed (next_of (ring_told xs s p)) (length (ring_told xs s p))
+told_rings : (xs : List Side) (s p : ℕ) → Ringed (next_of xs) (length xs) → Ringed (next_of (ring_told xs s p)) (length (ring_told xs s p))
 told_rings xs s p r =
     subst (λ (k : ℕ). Ringed (next_of (ring_told xs s p)) k) (sym (told_long xs s p)) (subst (λ (h : ℕ → ℕ). Ringed h (length xs)) (sym (told_else xs s p (λ r. r.next) (λ r. refl))) r)
 
@@ -47,8 +47,23 @@ told_onto w t u xs s p h k =
 
 -- ---- the state after a division
 
-module _ (m : Map) (first second : ℕ) (run : List Vertex) (named : ArcSide) (first_in : first < length (state_of m).sides) (second_in : second < length (state_of m).sides)
-    (share : meets (next_of (state_of m).sides) (length (state_of m).sides) first second ≡ true) where
+-- a division that a map takes
+pub record Division : Type 0 where
+  pub m : Map
+  pub first : ℕ
+  pub second : ℕ
+  pub run : List Vertex
+  pub named : ArcSide
+  pub first_in : first < length (state_of m).sides
+  pub second_in : second < length (state_of m).sides
+  pub share : meets (next_of (state_of m).sides) (length (state_of m).sides) first second ≡ true
+  pub fit : fit_run run ≡ true
+  pub led : leads (state_of m) first second run ≡ true
+  pub room : (arc_room (state_of m) && vertex_room (state_of m) (length run)) ≡ true
+
+module _ (d : Division) where
+  open d use {m, first, second, run, named, first_in, second_in, share, fit, led, room}
+
   abbrev us : List Side
   us = (state_of m).sides
 
@@ -76,7 +91,7 @@ module _ (m : Map) (first second : ℕ) (run : List Vertex) (named : ArcSide) (f
   abbrev xs : List Side
   xs = linked us first second (length vs) (length vs + (length run - 1))
 
-  abbrev us' : List Side
+  abbrev pub us' : List Side
   us' = divided_sides us first second (length vs) (length vs + (length run - 1)) named m.polygons
 
   p : (p : ℕ) × (p < n) × (f p ≡ first)
@@ -92,12 +107,12 @@ module _ (m : Map) (first second : ℕ) (run : List Vertex) (named : ArcSide) (f
       by Unturned = inl (refl, refl)
       by Turned = inr (refl, refl)
 
-  pub linked_ringed : Ringed (next_of xs) (length xs)
+  linked_ringed : Ringed (next_of xs) (length xs)
   linked_ringed =
       subst (Ringed (next_of xs)) (sym (linked_long us first second (length vs) (length vs + (length run - 1))))
       (linked_rings us vs run m.nodes m.polygons first second p.0 q.0 pu pt L first_in second_in p.1 q.1 p.2 q.2 share)
 
-  pub linked_used : length xs ≡ n + 2
+  linked_used : length xs ≡ n + 2
   linked_used = linked_long us first second (length vs) (length vs + (length run - 1))
 
   vertices_long : length vs ≡ m.vertices.used
@@ -116,10 +131,10 @@ module _ (m : Map) (first second : ℕ) (run : List Vertex) (named : ArcSide) (f
   same_old : code_old ≡ old
   same_old = ap (λ (r : Side). r.polygon) (sym (get_or-take m.sides.used m.sides.rows.now first no_side (omega (arith, sides_long, first_in))))
 
-  pub linked_held : (t : Table Side) → Holds m.sides t code_links → Holds m.sides t xs
+  linked_held : (t : Table Side) → Holds m.sides t code_links → Holds m.sides t xs
   linked_held t h = subst (λ (k : ℕ). Holds m.sides t (linked us first second k (k + (length run - 1)))) (sym vertices_long) h
 
-  pub first_held : (t u : Table Side) (v : ℕ) → v ≡ unturned_polygon named m.polygons code_old → Holds m.sides t code_links →
+  first_held : (t u : Table Side) (v : ℕ) → v ≡ unturned_polygon named m.polygons code_old → Holds m.sides t code_links →
       Holds t u (ring_told (take t.used t.rows.now) m.sides.used v) → Holds m.sides u (ring_told xs n pu)
   first_held t u v e h k =
       subst (λ (j : ℕ). Holds m.sides u (ring_told xs j pu)) (sym sides_long)
@@ -138,9 +153,16 @@ module _ (m : Map) (first second : ℕ) (run : List Vertex) (named : ArcSide) (f
   both_held t u w x y a b h k l = second_held u w y b (first_held t u x a h k) l
 
   -- what such a table of so many rows asks of the walks
-  pub walkable : (t : Table Side) (ys : List Side) → Holds m.sides t ys → length ys ≡ n + 2 → Ringed (next_of ys) (length ys) →
+  walkable : (t : Table Side) (ys : List Side) → Holds m.sides t ys → length ys ≡ n + 2 → Ringed (next_of ys) (length ys) →
       InRings (take t.used t.rows.now) t.used × (m.sides.used + 1 < t.used)
   walkable t ys h e r = (held_rings m.sides t ys h r, omega (arith, held_used m.sides t ys h, e, sides_long))
+
+  pub first_walk : (t : Table Side) → Holds m.sides t code_links → InRings (take t.used t.rows.now) t.used × (m.sides.used + 1 < t.used)
+  first_walk t h = walkable t xs (linked_held t h) linked_used linked_ringed
+
+  pub second_walk : (t u : Table Side) (v : ℕ) → v ≡ unturned_polygon named m.polygons code_old → Holds m.sides t code_links →
+      Holds t u (ring_told (take t.used t.rows.now) m.sides.used v) → InRings (take u.used u.rows.now) u.used × (m.sides.used + 1 < u.used)
+  second_walk t u v e h k = walkable u (ring_told xs n pu) (first_held t u v e h k) (told_long xs n pu ∙ linked_used) (told_rings xs n pu linked_ringed)
 
   same_next : next_of us' ≡ next_of xs
   same_next = next' us vs run m.nodes m.polygons first second p.0 q.0 pu pt L first_in second_in p.1 q.1 p.2 q.2 share
@@ -175,37 +197,36 @@ module _ (m : Map) (first second : ℕ) (run : List Vertex) (named : ArcSide) (f
       let a : length us' / 2 ≡ (n + 2) / 2 = ap (λ (k : ℕ). k / 2) so_long in
       omega (arith, divide_rings.one_more, a)
 
-  module _ (fit : fit_run run ≡ true) (led : leads (state_of m) first second run ≡ true) where
-    divided_law : Lawful us' (vs ++ run) (n + 2) m.nodes (m.polygons + 1)
-    divided_law =
-        let (a, b) = and_parts (same_place (get_or run 0 no_vertex) (start_of us vs first)) (same_place (get_or run (length run - 1) no_vertex) (start_of us vs second)) led in
-        divide_lawful us vs run m.nodes m.polygons first second p.0 q.0 pu pt L first_in second_in p.1 q.1 p.2 q.2 share which fit a b
+  divided_law : Lawful us' (vs ++ run) (n + 2) m.nodes (m.polygons + 1)
+  divided_law =
+      let (a, b) = and_parts (same_place (get_or run 0 no_vertex) (start_of us vs first)) (same_place (get_or run (length run - 1) no_vertex) (start_of us vs second)) led in
+      divide_lawful us vs run m.nodes m.polygons first second p.0 q.0 pu pt L first_in second_in p.1 q.1 p.2 q.2 share which fit a b
 
-    module _ (s : Table Side) (v : Table Vertex) (room : (arc_room (state_of m) && vertex_room (state_of m) (length run)) ≡ true) (hs : Holds m.sides s us') (gv : Grown m.vertices v run) where
-      used_are : s.used ≡ n + 2
-      used_are = held_used m.sides s us' hs ∙ so_long
+  module _ (s : Table Side) (v : Table Vertex) (hs : Holds m.sides s us') (gv : Grown m.vertices v run) where
+    used_are : s.used ≡ n + 2
+    used_are = held_used m.sides s us' hs ∙ so_long
 
-      -- the rows in use are few enough
-      pub divide_few : (s.used ≤ 32768) × (v.used ≤ 1048576)
-      divide_few = (omega (arith, used_are, (room_told m (length run) room).1), omega (arith, grown_used m.vertices v run gv, vertices_long, (room_told m (length run) room).3))
+    -- the rows in use are few enough
+    pub divide_few : (s.used ≤ 32768) × (v.used ≤ 1048576)
+    divide_few = (omega (arith, used_are, (room_told m (length run) room).1), omega (arith, grown_used m.vertices v run gv, vertices_long, (room_told m (length run) room).3))
 
-      pub divide_law : Lawful (take s.used s.rows.now) (take v.used v.rows.now) s.used m.nodes (m.polygons + 1)
-      divide_law = lawful_at m.nodes (m.polygons + 1) (sym hs.rows) (sym gv.rows) (sym used_are) divided_law
+    pub divide_law : Lawful (take s.used s.rows.now) (take v.used v.rows.now) s.used m.nodes (m.polygons + 1)
+    divide_law = lawful_at m.nodes (m.polygons + 1) (sym hs.rows) (sym gv.rows) (sym used_are) divided_law
 
-      pub divide_state : state_from m.hand s v m.nodes (m.polygons + 1) ≡ divided (state_of m) first second run named
-      divide_state =
-          ap (λ (x : List Side). of x (take v.used v.rows.now) (length s.rows.now) (length v.rows.now)) hs.rows
-          ∙ (ap (λ (x : List Vertex). of us' x (length s.rows.now) (length v.rows.now)) gv.rows
-          ∙ (ap (λ (k : ℕ). of us' (vs ++ run) k (length v.rows.now)) hs.long ∙ ap (of us' (vs ++ run) (length m.sides.rows.now)) gv.long))
-        where
-          of : List Side → List Vertex → ℕ → ℕ → State
-          of x y j k = record { hand = m.hand; sides = x; vertices = y; nodes = m.nodes; polygons = m.polygons + 1; side_rows = j; vertex_rows = k }
+    pub divide_state : state_from m.hand s v m.nodes (m.polygons + 1) ≡ divided (state_of m) first second run named
+    divide_state =
+        ap (λ (x : List Side). of x (take v.used v.rows.now) (length s.rows.now) (length v.rows.now)) hs.rows
+        ∙ (ap (λ (x : List Vertex). of us' x (length s.rows.now) (length v.rows.now)) gv.rows
+        ∙ (ap (λ (k : ℕ). of us' (vs ++ run) k (length v.rows.now)) hs.long ∙ ap (of us' (vs ++ run) (length m.sides.rows.now)) gv.long))
+      where
+        of : List Side → List Vertex → ℕ → ℕ → State
+        of x y j k = record { hand = m.hand; sides = x; vertices = y; nodes = m.nodes; polygons = m.polygons + 1; side_rows = j; vertex_rows = k }
 
-      pub divide_agrees : Ok (state_from m.hand s v m.nodes (m.polygons + 1)) ≡ divide_outcome (state_of m) first second run named
-      divide_agrees =
-          ap Ok divide_state
-          ∙ sym (cond-true (ltb first n && ltb second n) _ (Err NoSuchElement) (and_from (ltb first n) (ltb second n) (lt-ltb first n first_in) (lt-ltb second n second_in))
-          ∙ (cond-true (meets f n first second) _ (Err SidesInTwoRings) share
-          ∙ (cond-true (fit_run run) _ (Err UnfitRun) fit
-          ∙ (cond-true (leads (state_of m) first second run) _ (Err RunEndsElsewhere) led
-          ∙ cond-true (arc_room (state_of m) && vertex_room (state_of m) (length run)) (Ok (divided (state_of m) first second run named)) (Err NoRoom) room))))
+    pub divide_agrees : Ok (state_from m.hand s v m.nodes (m.polygons + 1)) ≡ divide_outcome (state_of m) first second run named
+    divide_agrees =
+        ap Ok divide_state
+        ∙ sym (cond-true (ltb first n && ltb second n) _ (Err NoSuchElement) (and_from (ltb first n) (ltb second n) (lt-ltb first n first_in) (lt-ltb second n second_in))
+        ∙ (cond-true (meets f n first second) _ (Err SidesInTwoRings) share
+        ∙ (cond-true (fit_run run) _ (Err UnfitRun) fit
+        ∙ (cond-true (leads (state_of m) first second run) _ (Err RunEndsElsewhere) led
+        ∙ cond-true (arc_room (state_of m) && vertex_room (state_of m) (length run)) (Ok (divided (state_of m) first second run named)) (Err NoRoom) room))))

@@ -33,4 +33,5 @@ pub mod JoinRuns
 pub mod PushedAgain
 pub mod GoesOn
 pub mod JoinEnds
+pub mod JoinStates
 pub mod JoinDone
