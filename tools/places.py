@@ -53,12 +53,12 @@ def by_line(root, pattern):
 
 
 def refusing_else(root):
-    """`else { return None; }` and `else { return Err(..); }` after a `let`."""
+    """`else { return None; }`, `else { return Err(..); }` and `else { return Ok(None); }` after a `let`."""
     found = []
     for path in sources(root):
         lines = list(code_lines(path))
         for (n, line), (_, after) in zip(lines, lines[1:]):
-            if re.search(r"\blet .*else \{$", line) and re.search(r"^\s*return (None|Err\(.*\));", after):
+            if re.search(r"\blet .*else \{$", line) and re.search(r"^\s*return (None|Err\(.*\)|Ok\(None\));", after):
                 found.append((path.relative_to(root), n, line.strip()))
     return found
 

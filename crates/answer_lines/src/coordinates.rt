@@ -4,19 +4,16 @@ ghost use Rattle.answer_lines.specs.AnswerTexts.{VertexText};
 
 use super::fault::TextFault;
 use std::alloc::Global;
+use std::num::f64_to_bits_with_nan;
 use topology::vertex::Vertex;
 use words::decimal;
 
 // Whether two doubles are the same, zeros of two signs apart.
-// Stays: == takes the two zeros for one and no NaN for itself, and std's to_bits and total_cmp require that there is no NaN.
-#[tactic(auto, using(crate::proofs::Doubles::same_bits, crate::proofs::Doubles::both_nan))]
+#[tactic(auto, using(crate::proofs::Doubles::same_bits))]
 fn same(x: f64, y: f64) -> bool
     ensures { result ≡ true → x ≡ y }
 {
-    if x.is_nan() || y.is_nan() {
-        return x.is_nan() && y.is_nan();
-    }
-    x.to_bits() == y.to_bits()
+    f64_to_bits_with_nan(x) == f64_to_bits_with_nan(y)
 }
 
 // A decimal number that is read as this double.

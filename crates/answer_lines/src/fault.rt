@@ -2,17 +2,19 @@ ghost use Rattle.std.specs.Prelude.{◌≡◌};
 ghost use Rattle.answer_lines.specs.declared.fault.TextFault.TheVariants.{NoMemory};
 
 use std::alloc::AllocError;
-use std::error::Error;
-use std::fmt;
+use thiserror::Error;
 
 /// Why an answer has no text.
-#[derive(Clone, Copy, PartialEq, Eq, Debug)]
+#[derive(Clone, Copy, PartialEq, Eq, Debug, Error)]
 pub enum TextFault {
+    #[error("no memory for an answer")]
     NoMemory,
     /// The text of a coordinate is read as another double than the coordinate.
+    #[error("a coordinate would not be read as it was written")]
     ReadsOtherwise,
 }
 
+// Stays: `from_gives` says which fault comes of it, as the contracts of those who convert need, and `#[from]` writes a `From` that says nothing.
 impl From<AllocError> for TextFault {
     ghost from_gives = { λ _ fault. fault ≡ NoMemory };
 
@@ -20,14 +22,3 @@ impl From<AllocError> for TextFault {
         Self::NoMemory
     }
 }
-
-impl fmt::Display for TextFault {
-    fn fmt<W: fmt::Write>(&self, f: &mut fmt::Formatter<W>) -> fmt::Result {
-        f.write_str(match self {
-            TextFault::NoMemory => "no memory for an answer",
-            TextFault::ReadsOtherwise => "a coordinate would not be read as it was written",
-        })
-    }
-}
-
-impl Error for TextFault {}

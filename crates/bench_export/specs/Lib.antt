@@ -1,2 +1,5 @@
 pub mod Meetings
 pub mod Nestings
+pub mod Sheets
+pub mod Telling
+pub mod Pairs

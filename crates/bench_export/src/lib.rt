@@ -1,10 +1,13 @@
-// The search and the listing, for the benchmarks' Rust programs.
+// The search, the listing and edits in pairs, for the benchmarks' Rust programs.
 #![tactic(auto)]
 
 ghost use Rattle.std.specs.Prelude.{◌≡◌, unwrap_or};
 ghost use Rattle.bench_export.specs.Meetings.{among, arcs_meeting, refused_count};
 
 pub mod nests;
+pub mod pairs;
+pub mod sheets;
+pub mod told;
 
 use boxes::bounds::Bounds;
 use boxes::edges::Edges;

@@ -25,6 +25,7 @@ fn around() -> [Vertex; 4]
 }
 
 // Adds so many islands to a map, each in the polygon of the one before.
+// Stays: the polygons are numbers, and no slice is gone through; `try_for_each` over the same range, with a closure that writes the map, is no plainer.
 fn add_nested(map: &mut Map<'_>, islands: usize) -> Result<(), Refusal>
     ensures { answered result (state_of map.new) ≡ nested islands (state_of map.old) }
 {
@@ -35,6 +36,7 @@ fn add_nested(map: &mut Map<'_>, islands: usize) -> Result<(), Refusal>
 }
 
 // Lists a map, and before that so many times more.
+// Stays: it is done so many times, and nothing is gone through; `for_each` over the same range, with a closure that writes the text, is no plainer.
 fn list_again(map: &Map<'_>, again: usize, out: &mut [u8]) -> Result<usize, Refusal>
     ensures answer { result ≡ text_outcome (listing (state_of map.now)) (length out.old) }
     ensures leaves { out.new ≡ text_leaves (listing (state_of map.now)) out.old }

@@ -41,7 +41,7 @@ impl Bounds {
     }
 
     // The box whose bounds have these bits. That they are finite is judged on the bits, so that the doubles need no care for NaN.
-    // Stays: judged on the bits and without short circuits. By way of read_double and Bounds::new, and with a row's place judged by a product, the search took 1.2 to 1.5 times as long as plain Rust, which this does not.
+    // Stays: judged on the bits and without short circuits, for the search, which may take at most 1.1 times as long as plain Rust. It takes 0.68 to 0.97 times as long over 1,000,000 records, and 0.52 to 1.06 over at most 250,000. By way of `Bounds::new` it took up to 1.27 and 1.37 times as long, and still 1.10 and 1.32 with `&` in place of `&&` there.
     fn of_bits(minx: u64, maxx: u64, miny: u64, maxy: u64) -> Result<Bounds, Refusal>
         ensures { Made (edges_of_bits minx maxx miny maxy) result }
     {

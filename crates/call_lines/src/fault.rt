@@ -3,17 +3,19 @@ ghost use Rattle.call_lines.specs.declared.fault.LineFault.TheVariants.{NoMemory
 
 use super::expected::Expected;
 use std::alloc::AllocError;
-use std::error::Error;
-use std::fmt;
+use thiserror::Error;
 
 /// Why a line was not read.
-#[derive(Clone, Copy, PartialEq, Eq, Debug)]
+#[derive(Clone, Copy, PartialEq, Eq, Debug, Error)]
 pub enum LineFault {
+    #[error("no memory for an answer")]
     NoMemory,
     /// The line is no call. By its first word it has to be this one.
+    #[error("expected {0}")]
     NoCall(Expected),
 }
 
+// Stays: `from_gives` says which fault comes of it, as the contracts of those who convert need, and `#[from]` writes a `From` that says nothing.
 impl From<AllocError> for LineFault {
     ghost from_gives = { λ _ fault. fault ≡ NoMemory };
 
@@ -21,14 +23,3 @@ impl From<AllocError> for LineFault {
         Self::NoMemory
     }
 }
-
-impl fmt::Display for LineFault {
-    fn fmt<W: fmt::Write>(&self, f: &mut fmt::Formatter<W>) -> fmt::Result {
-        match self {
-            LineFault::NoMemory => f.write_str("no memory for a line"),
-            LineFault::NoCall(expected) => write!(f, "expected {expected}"),
-        }
-    }
-}
-
-impl Error for LineFault {}

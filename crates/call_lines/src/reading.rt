@@ -64,6 +64,7 @@ fn division_sides(words: &[String]) -> Option<(usize, usize, ArcSide)>
 }
 
 // An island: a polygon, and then the vertices of a run.
+// Stays: the run is read only after the words before it, and for want of memory that can fail; `map` with `transpose` and `flatten`, one closure in another, is no plainer.
 fn read_island(heap: Global, words: &[String]) -> Result<Option<Call<Vec<Vertex>>>, AllocError>
     ensures { IfOk result (λ o. SaysCall (call_of IslandCall (texts words.now)) o) }
 {

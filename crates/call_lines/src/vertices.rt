@@ -22,6 +22,7 @@ fn vertex(word: &str) -> Option<Vertex>
 pub(crate) fn read_run(heap: Global, words: &[String]) -> Result<Option<Vec<Vertex>>, AllocError>
     ensures { IfOk result (λ o. RunOf (texts words.now) o) }
 {
+    // Stays: tried, and the proof did not close: std tells nothing of what `collect` into an `Option` gives.
     let mut vertices = Vec::new(heap);
     for word in words {
         let Some(vertex) = vertex(word.as_str()) else {

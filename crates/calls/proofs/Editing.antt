@@ -10,7 +10,7 @@ use Rattle.calls.specs.declared.answer.Answer.{Answer}
 use Rattle.calls.specs.declared.answer.Answer.TheVariants.{Done}
 use Rattle.calls.specs.Outcomes.{edit, told, outcome, Keeps, Played}
 
-module _ (c : Call (List Vertex)) (f : State → Result State Refusal) (was is : Map) (text : List ℕ) where
-  pub edit_played : outcome c (state_of was) text ≡ edit (state_of was) text (f (state_of was)) → (r : Result (Unit {0}) Refusal) (a : Result Answer Refusal) → Edited f was is r → a ≡ told (λ _. Done) r → Played c was is text text a
-  edit_played o (Ok x) a e t = record { agrees = cc; keeps = subst (Keeps was is) (sym t) e.keeps; sides_lent = e.sides_lent; vertices_lent = e.vertices_lent }
-  edit_played o (Err x) a e t = record { agrees = cc; keeps = subst (Keeps was is) (sym t) e.keeps; sides_lent = e.sides_lent; vertices_lent = e.vertices_lent }
+pub edit_played : {c : Call (List Vertex)} {f : State → Result State Refusal} {was is : Map} {text : List ℕ} {r : Result (Unit {0}) Refusal} {a : Result Answer Refusal} → Edited f was is r → a ≡ told (λ _. Done) r
+    → outcome c (state_of was) text ≡ edit (state_of was) text (f (state_of was)) → Played c was is text text a
+edit_played {was = was} {is = is} {r = Ok x} e t o = record { agrees = cc; keeps = subst (Keeps was is) (sym t) e.keeps; sides_lent = e.sides_lent; vertices_lent = e.vertices_lent }
+edit_played {was = was} {is = is} {r = Err x} e t o = record { agrees = cc; keeps = subst (Keeps was is) (sym t) e.keeps; sides_lent = e.sides_lent; vertices_lent = e.vertices_lent }

@@ -12,10 +12,11 @@ use Rattle.calls.specs.declared.call.Call.TheVariants.{List as Listing}
 use Rattle.calls.specs.Outcomes.{Played}
 use Rattle.line_words.specs.LineWords.{words_of}
 use Rattle.call_lines.specs.declared.expected.Expected.{Expected}
+use Rattle.call_lines.specs.declared.fault.LineFault.TheVariants.{NoMemory, NoCall}
 use Rattle.call_lines.specs.Spoken.{spoken, Same}
 use Rattle.answer_lines.specs.AnswerTexts.{AnswerText}
 use Rattle.journal.specs.declared.fault.PlayFault.{PlayFault}
-use Rattle.journal.specs.declared.fault.PlayFault.TheVariants.{NotUtf8, NoCall, NoText}
+use Rattle.journal.specs.declared.fault.PlayFault.TheVariants.{NotUtf8, NotRead, NoText}
 
 -- how much text a call wants: the listing's length, or none
 abbrev pub room : {R : Type 0} → Call R → State → ℕ
@@ -35,11 +36,12 @@ pub record Answers (said : Call (List (List ℕ))) (was is : Map) (bs : List ℕ
   pub same : Same said call
   pub done : Done call was is bs
 
--- What a line comes to, by what its words say: it is passed over, or its call is played and answered, or it is no call. Only a call changes the map. Where an answer got no text, nothing is told of it.
+-- What a line comes to, by what its words say: it is passed over, or its call is played and answered, or it is no call. Only a call changes the map. A line that found no memory is not played; where an answer got no text, nothing is told of it.
 abbrev pub Stepped : Result (Option (Call (List (List ℕ)))) Expected → Map → Map → Result (Option (Vec ℕ Global)) PlayFault → Type 0
 Stepped said was is (Ok None) = (said ≡ Ok None) × (is ≡ was)
 Stepped said was is (Ok (Some line)) = (call : Call (List (List ℕ))) × (said ≡ Ok (Some call)) × Answers call was is (vec_items line)
-Stepped said was is (Err (NoCall x)) = (said ≡ Err x) × (is ≡ was)
+Stepped said was is (Err (NotRead (NoCall x))) = (said ≡ Err x) × (is ≡ was)
+Stepped said was is (Err (NotRead NoMemory)) = is ≡ was
 Stepped said was is (Err (NoText e)) = Unit {0}
 Stepped said was is (Err NotUtf8) = ⊥
 

@@ -1,23 +1,23 @@
 ghost use Rattle.std.specs.Prelude.{◌≡◌};
-ghost use Rattle.journal.specs.declared.fault.PlayFault.TheVariants.{NotUtf8, NoText};
-ghost use Rattle.journal.specs.Faults.{of_line};
+ghost use Rattle.journal.specs.declared.fault.PlayFault.TheVariants.{NotUtf8, NotRead, NoText};
 
 use answer_lines::fault::TextFault;
-use call_lines::expected::Expected;
 use call_lines::fault::LineFault;
-use std::error::Error;
-use std::fmt;
 use std::str::Utf8Error;
+use thiserror::Error;
 
 /// Why a line of a journal has no answer.
-#[derive(Clone, Copy, PartialEq, Eq, Debug)]
+#[derive(Clone, Copy, PartialEq, Eq, Debug, Error)]
 pub enum PlayFault {
+    #[error("not UTF-8")]
     NotUtf8,
-    /// The line is no call. By its first word it has to be this one.
-    NoCall(Expected),
+    #[error("{0}")]
+    NotRead(LineFault),
+    #[error("{0}")]
     NoText(TextFault),
 }
 
+// Stays: here and below `from_gives` says which fault comes of it, as the contracts of those who convert need, and `#[from]` writes a `From` that says nothing.
 impl From<Utf8Error> for PlayFault {
     ghost from_gives = { λ _ fault. fault ≡ NotUtf8 };
 
@@ -27,13 +27,10 @@ impl From<Utf8Error> for PlayFault {
 }
 
 impl From<LineFault> for PlayFault {
-    ghost from_gives = { λ e fault. fault ≡ of_line e };
+    ghost from_gives = { λ e fault. fault ≡ NotRead e };
 
     fn from(e: LineFault) -> Self {
-        match e {
-            LineFault::NoMemory => Self::NoText(TextFault::NoMemory),
-            LineFault::NoCall(expected) => Self::NoCall(expected),
-        }
+        Self::NotRead(e)
     }
 }
 
@@ -44,15 +41,3 @@ impl From<TextFault> for PlayFault {
         Self::NoText(e)
     }
 }
-
-impl fmt::Display for PlayFault {
-    fn fmt<W: fmt::Write>(&self, f: &mut fmt::Formatter<W>) -> fmt::Result {
-        match self {
-            PlayFault::NotUtf8 => f.write_str("not UTF-8"),
-            PlayFault::NoCall(expected) => write!(f, "expected {expected}"),
-            PlayFault::NoText(e) => write!(f, "{e}"),
-        }
-    }
-}
-
-impl Error for PlayFault {}

@@ -42,6 +42,7 @@ fn play_call(heap: Global, map: &mut Map, call: &Call<Vec<Vertex>>) -> Result<Ve
 pub fn play_line(heap: Global, map: &mut Map, line: &str) -> Result<Option<Vec<u8>>, PlayFault>
     ensures { Stepped (spoken (words_of line.now)) map.old map.new result }
 {
+    // Stays: tried, and the proof did not close: with `map` and `transpose` nothing is known of the map where the closure is not called.
     let Some(call) = read_line(heap, line)? else {
         return Ok(None);
     };

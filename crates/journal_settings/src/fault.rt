@@ -1,26 +1,14 @@
-use std::error::Error;
-use std::fmt;
+use thiserror::Error;
 
 /// What is wrong with the words of a command line.
-#[derive(Clone, Copy, PartialEq, Eq, Debug)]
+#[derive(Clone, Copy, PartialEq, Eq, Debug, Error)]
 pub enum Fault {
+    #[error("usage: sheet_journal [--hand right|left] [--sides N] [--vertices N] < JOURNAL")]
     Usage,
+    #[error("--hand takes right or left")]
     WrongHand,
+    #[error("--sides takes a whole number from 0 to 18446744073709551615")]
     WrongSides,
+    #[error("--vertices takes a whole number from 0 to 18446744073709551615")]
     WrongVertices,
 }
-
-impl fmt::Display for Fault {
-    fn fmt<W: fmt::Write>(&self, f: &mut fmt::Formatter<W>) -> fmt::Result {
-        f.write_str(match self {
-            Fault::Usage =>
-                "usage: sheet_journal [--hand right|left] [--sides N] [--vertices N] < JOURNAL",
-            Fault::WrongHand => "--hand takes right or left",
-            Fault::WrongSides => "--sides takes a whole number from 0 to 18446744073709551615",
-            Fault::WrongVertices =>
-                "--vertices takes a whole number from 0 to 18446744073709551615",
-        })
-    }
-}
-
-impl Error for Fault {}

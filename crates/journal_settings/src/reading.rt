@@ -9,6 +9,7 @@ use topology::hand::Hand;
 use words::number;
 
 // The hand that a word names.
+// Stays: `FromStr` or `TryFrom` for `Hand` would have to stand in `topology`, beside the type, where no word is read; a type of our own around it, for one call, is no plainer.
 fn hand(word: &str) -> Option<Hand>
     ensures { result ≡ hand_of word.now }
 {

@@ -23,6 +23,7 @@ fn answer(rt: &HostRuntime, map: &mut Map, number: u64, bytes: &[u8]) -> anyhow:
 }
 
 // The lines of a journal, played on a map.
+// Stays: this and `run` are nearly `play` and `run` of `sheet_journal`, which stop at the first fault and say what is wrong where tables find no memory; here faults are told between the answers, and an error ends the program. One function for both would take the reader and a closure for what a fault does, around one `for`, and is no plainer.
 fn play(rt: &HostRuntime, map: &mut Map, path: &str) -> anyhow::Result<()> {
     let input = BufReader::new(rt.alloc(), fs::open(rt, path)?)?;
     for (number, bytes) in (1u64..).zip(input.split(rt.alloc(), b'\n')) {
@@ -32,7 +33,6 @@ fn play(rt: &HostRuntime, map: &mut Map, path: &str) -> anyhow::Result<()> {
 }
 
 // A journal, played on a blank map.
-// Stays: `sheet_journal` says what is wrong where tables find no memory, and here the error ends the run. What the two share is three lines.
 fn run(rt: &HostRuntime, path: &str, settings: Settings) -> anyhow::Result<()> {
     let heap = rt.alloc();
     let mut sides = vec![in heap; Side::default(); settings.sides]?;

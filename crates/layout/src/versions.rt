@@ -46,7 +46,7 @@ impl Version {
     }
 }
 
-// Stays: the editions are types under one trait, their sizes constants, and the version that a file tells chooses between the two types in each match. To choose by `dyn` or by a closure needs a value of each edition, and is no plainer.
+// Stays: four matches choose between the types of the two editions. One match could choose a width and a largest number, and the rest be functions over these, but such a function can keep what it promises only where the width is at most 8 and the number is the largest of that width. No public function has a condition, so the two would need a type that holds these facts, which the trait `Edition` states already, and it is no plainer.
 impl Version {
     /// The sizes of this edition.
     pub fn sizes(self) -> Sizes

@@ -3,3 +3,4 @@ pub mod Walked
 pub mod RingLines
 pub mod Sizes
 pub mod Fitting
+pub mod Listing

@@ -4,8 +4,8 @@ use lib.Seq.{sets}
 use Rattle.std.proofs.Math.Nat.{one-le-pow}
 use Rattle.std.proofs.lemmas.List.{length-append, append_assoc, length_push, set_past}
 use Rattle.std.proofs.lemmas.Fmt.{decimal_digit, decimal_step, decimal_nonempty, length-decimal-le}
-use Rattle.listing.specs.Puts.{HasRoom, Put, Puts, two, four}
-use Rattle.listing.specs.declared.puts.Writer.{Writer}
+use Rattle.listing.specs.Puts.{Put, Puts, two, four}
+use Rattle.listing.specs.declared.puts.Lister.{Lister}
 use Rattle.listing.specs.Texts.{counts_line, side_text}
 
 sets_append : (xs : List ℕ) (at : ℕ) (ws vs : List ℕ) → sets (sets xs at ws) (at + length ws) vs ≡ sets xs at (ws ++ vs)
@@ -23,41 +23,45 @@ put_then {was = was} {at = at} {ws = ws} {to = to} {vs = vs} p q =
 pub put_same : {was : List ℕ} {at : ℕ} {ws vs is : List ℕ} {to : ℕ} → ws ≡ vs → Put was at ws is to → Put was at vs is to
 put_same {was = was} {at = at} {is = is} {to = to} e p = subst (λ (xs : List ℕ). Put was at xs is to) e p
 
--- ---- the same with a writer
+-- ---- the same of a listing
 
-pub puts_then : {was mid is : Writer} {ws vs : List ℕ} → Puts was mid ws → Puts mid is vs → Puts was is (ws ++ vs)
-puts_then p q = record { put = put_then p.put q.put; same = q.same ∙ p.same }
+pub puts_then : {was mid is : Lister} {ws vs : List ℕ} → Puts was mid ws → Puts mid is vs → Puts was is (ws ++ vs)
+puts_then {ws = ws} {vs = vs} p q =
+    record {
+      put = λ h.
+          let a = p.put (omega (arith, h, length-append ws vs)) in
+          put_then a (q.put (omega (arith, h, a.next, length-append ws vs)));
+      same = q.same ∙ p.same;
+      map = q.map ∙ p.map;
+    }
 
-pub puts_same : {was is : Writer} {ws vs : List ℕ} → ws ≡ vs → Puts was is ws → Puts was is vs
+pub puts_same : {was is : Lister} {ws vs : List ℕ} → ws ≡ vs → Puts was is ws → Puts was is vs
 puts_same {was = was} {is = is} e p = subst (λ (xs : List ℕ). Puts was is xs) e p
 
 -- under another name for what was left
-pub puts_as : {was is other : Writer} {ws : List ℕ} → other ≡ is → Puts was is ws → Puts was other ws
-puts_as {was = was} {ws = ws} e p = subst (λ (w : Writer). Puts was w ws) (sym e) p
+pub puts_as : {was is other : Lister} {ws : List ℕ} → other ≡ is → Puts was is ws → Puts was other ws
+puts_as {was = was} {ws = ws} e p = subst (λ (w : Lister). Puts was w ws) (sym e) p
 
 -- of the whole text, all but what is left was put
-pub record Rest (was is : Writer) (whole left : List ℕ) : Type 0 where
-  pub next : is.at + length left ≡ was.at + length whole
-  pub after : sets is.out.now is.at left ≡ sets was.out.now was.at whole
+pub record Rest (was is : Lister) (whole left : List ℕ) : Type 0 where
+  pub next : was.at + length whole < 2 ^ 64 → is.at + length left ≡ was.at + length whole
+  pub after : was.at + length whole < 2 ^ 64 → sets is.out.now is.at left ≡ sets was.out.now was.at whole
   pub same : is.out.ghost_name ≡ was.out.ghost_name
+  pub map : is.map ≡ was.map
 
-pub rest_more : {was mid is : Writer} {whole ws vs : List ℕ} → Rest was mid whole (ws ++ vs) → Puts mid is ws → Rest was is whole vs
+pub rest_more : {was mid is : Lister} {whole ws vs : List ℕ} → Rest was mid whole (ws ++ vs) → Puts mid is ws → Rest was is whole vs
 rest_more {mid = mid} {is = is} {ws = ws} {vs = vs} r p =
     record {
-      next = omega (arith, r.next, p.put.next, length-append ws vs);
-      after = ap (λ (xs : List ℕ). sets xs is.at vs) p.put.after ∙ ap (λ (k : ℕ). sets (sets mid.out.now mid.at ws) k vs) p.put.next ∙ sets_append mid.out.now mid.at ws vs ∙ r.after;
+      next = λ h. let e = r.next h in omega (arith, e, (p.put (omega (arith, h, e, length-append ws vs))).next, length-append ws vs);
+      after = λ h.
+          let q = p.put (omega (arith, h, r.next h, length-append ws vs)) in
+          ap (λ (xs : List ℕ). sets xs is.at vs) q.after ∙ ap (λ (k : ℕ). sets (sets mid.out.now mid.at ws) k vs) q.next ∙ sets_append mid.out.now mid.at ws vs ∙ r.after h;
       same = p.same ∙ r.same;
+      map = p.map ∙ r.map;
     }
 
-pub rest_same : {was is : Writer} {whole ws vs : List ℕ} → ws ≡ vs → Rest was is whole ws → Rest was is whole vs
+pub rest_same : {was is : Lister} {whole ws vs : List ℕ} → ws ≡ vs → Rest was is whole ws → Rest was is whole vs
 rest_same {was = was} {is = is} {whole = whole} e r = subst (λ (xs : List ℕ). Rest was is whole xs) e r
-
-pub rest_done : {was is : Writer} {whole : List ℕ} → Rest was is whole [] → Puts was is whole
-rest_done r = record { put = record { next = omega (arith, r.next); after = r.after }; same = r.same }
-
--- where the whole fits, what is left does
-pub rest_room : {was is : Writer} {whole : List ℕ} (ws vs : List ℕ) → HasRoom was (length whole) → Rest was is whole (ws ++ vs) → HasRoom is (length ws)
-rest_room ws vs h r = omega (arith, r.next, length-append ws vs)
 
 -- past the end
 pub put_past : (was : List ℕ) (at : ℕ) (ws : List ℕ) → length was ≤ at → was ≡ sets was at ws
@@ -94,15 +98,6 @@ last_four n h l =
     last_two n (omega arith) l ∙ ap (λ (ds : List ℕ). ds ++ two (n % 100)) (last_two (n / 100) (omega arith) (omega arith))
     ∙ append_assoc (decimal (n / 100 / 100)) (two (n / 100 % 100)) (two (n % 100)) ∙ ap (λ (k : ℕ). decimal k ++ (two (n / 100 % 100) ++ two (n % 100))) a
     ∙ ap (λ (k : ℕ). decimal (n / 10000) ++ (two k ++ two (n % 100))) b ∙ ap (λ (k : ℕ). decimal (n / 10000) ++ (two (n % 10000 / 100) ++ two k)) c
-
-pub length_last_two : (n : ℕ) → 100 ≤ n → n < 2 ^ 64 → length (decimal n) ≡ length (decimal (n / 100)) + 2
-length_last_two n h l = ap length (last_two n h l) ∙ length-append (decimal (n / 100)) (two (n % 100))
-
-pub length_last_four : (n : ℕ) → 10000 ≤ n → n < 2 ^ 64 → length (decimal n) ≡ length (decimal (n / 10000)) + 4
-length_last_four n h l = ap length (last_four n h l) ∙ length-append (decimal (n / 10000)) (four (n % 10000))
-
-pub length_two : (n : ℕ) → 10 ≤ n → n < 100 → length (decimal n) ≡ 2
-length_two n h l = omega (arith, length_digits n h (omega arith), length_digit (n / 10) (omega arith))
 
 length_least : (k n : ℕ) → 10 ^ k ≤ n → n < 2 ^ 64 → k + 1 ≤ length (decimal n)
 length_least zero n h l = omega (arith, decimal_nonempty n l)

@@ -1,7 +1,6 @@
 -- The lines of the rings, side by side.
-use Rattle.std.proofs.Common.{◌≡◌, ℕ, zero, suc, ◌+◌, ◌≤◌, Bool, true, false, cond, List, [], ◌∷◌, ◌++◌, map, length, decimal, sym, refl, ap, ◌∙◌, inl, inr, add-one, arith}
+use Rattle.std.proofs.Common.{◌≡◌, ℕ, zero, suc, ◌+◌, Bool, true, false, cond, List, [], ◌∷◌, ◌++◌, map, length, decimal, sym, refl, ap, ◌∙◌, add-one, arith}
 use Rattle.std.proofs.lemmas.List.{length-append, append-nil, append_assoc, map-append}
-use Rattle.std.proofs.lemmas.Bool.{cases_eq}
 use Rattle.rings.specs.Circles.{first, ring, kept}
 use Rattle.rings.proofs.Ringwise.{ringwise}
 use Rattle.topology.specs.declared.map.Map.{Map}
@@ -28,14 +27,6 @@ lines_yes m k h = sym (ap (lines_below m) (add-one k) ∙ ap (λ t. lines_below 
 
 pub lines_no : (m : State) (k : ℕ) → tells m.sides k ≡ false → lines_below m k ≡ lines_below m (k + 1)
 lines_no m k h = sym (ap (lines_below m) (add-one k) ∙ ap (λ t. lines_below m k ++ cond t (line_from m k) []) h ∙ append-nil (lines_below m k))
-
-pub lines_front : (m : State) (n k : ℕ) → k ≤ n → length (lines_below m k) ≤ length (lines_below m n)
-lines_front m zero k h = let e : k ≡ 0 = omega arith in rw e (omega arith)
-lines_front m (suc n) k h =
-    elim (cases_eq k (suc n)) [
-      | inl e ↦ rw e (omega arith)
-      | inr ne ↦ omega (arith, lines_front m n k (omega arith), length-append (lines_below m n) (cond (tells m.sides n) (line_from m n) []))
-    ]
 
 lines_append : (m : State) (xs ys : List (List ℕ)) → ring_lines m (xs ++ ys) ≡ ring_lines m xs ++ ring_lines m ys
 lines_append m [] ys = refl

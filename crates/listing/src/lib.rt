@@ -10,8 +10,7 @@ ghost use Rattle.listing.specs.Texts.{listing, text_outcome, text_leaves};
 mod lines;
 mod puts;
 
-use lines::{put_head, put_rings};
-use puts::Writer;
+use puts::Lister;
 use refusal::Refusal;
 use topology::map::Map;
 
@@ -21,10 +20,10 @@ fn put_listing(map: &Map<'_>, rings: usize, out: &mut [u8]) -> usize
     ensures count { result ≡ length (listing (state_of map.now)) }
     ensures after { out.new ≡ sets out.old 0 (listing (state_of map.now)) }
 {
-    let mut to = Writer { out, at: 0 };
-    put_head(map, rings, &mut to);
-    put_rings(map, &mut to);
-    to.at
+    let mut listing = Lister { map, out, at: 0 };
+    listing.put_head(rings);
+    listing.put_rings();
+    listing.at
 }
 
 /// How many bytes the listing of a map has.

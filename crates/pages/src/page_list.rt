@@ -7,7 +7,7 @@ use refusal::Refusal;
 /// The numbers of some of the 128 pages, none above 127 and none twice.
 #[derive(Clone, Copy)]
 pub struct PageList {
-    // Stays: an array and how much of it is used, since the library has no heap, and a list that borrowed the numbers would have the caller keep them for as long as the medium.
+    // Stays: an array and how much of it is used, since the library has no heap, and the kit's list in an array, `ArrayVec`, is not `Copy`, which a page list is.
     list: [u8; 128],
     len: usize,
     ghost few: { len ≤ 128 },
@@ -48,7 +48,8 @@ impl PageList {
     // The page that holds byte a.
     pub(crate) fn page(&self, a: usize) -> usize
         requires { a < 512 * self.now.len }
-        ensures { (result ≡ slice_index self.now.list (a / 512)) × (result < 128) }
+        ensures value { result ≡ slice_index self.now.list (a / 512) }
+        ensures below { result < 128 }
     {
         self.list[a / 512] as usize
     }

@@ -24,35 +24,42 @@ impl<'a> Pages<'a> {
     }
 }
 
-// Fills the buffer with the bytes from `at` on.
-fn fetch(pages: &[[u8; 512]; 128], list: &PageList, at: usize, into: &mut [u8])
-    requires { at + length into.old ≤ 512 * list.now.len }
-    ensures { into.new ≡ run (content pages.now list.now.list list.now.len) at (length into.old) }
-{
-    for (i, byte) in into.iter_mut().enumerate() {
-        let a = at + i;
-        *byte = pages[list.page(a)][a % 512];
-    }
-}
-
-// Stores a byte in a page, and tells that the page has 512 bytes.
+// Stores a byte in a page, and tells that there are 128 pages and that this one has 512 bytes.
 fn put(pages: &mut [[u8; 512]; 128], page: usize, at: usize, b: u8)
-    requires { (page < 128) × (at < 512) }
+    requires page { page < 128 }
+    requires place { at < 512 }
     ensures after { pages.new ≡ stored pages.old page at b }
+    ensures all { length pages.old ≡ 128 }
     ensures whole { length (slice_index_or pages.old page []) ≡ 512 }
 {
     let bytes: &mut [u8] = &mut pages[page];
     bytes[at] = b;
 }
 
-// Puts the given bytes in the place of those from `at` on.
-fn store(pages: &mut [[u8; 512]; 128], list: &PageList, at: usize, from: &[u8])
-    requires { at + length from.now ≤ 512 * list.now.len }
-    ensures { content pages.new list.now.list list.now.len ≡ overwrite (content pages.old list.now.list list.now.len) at from.now }
-{
-    for (i, byte) in from.iter().enumerate() {
-        let a = at + i;
-        put(pages, list.page(a), a % 512, *byte);
+impl Pages<'_> {
+    // Fills the buffer with the bytes from `at` on.
+    fn fetch(&self, at: usize, into: &mut [u8])
+        requires { at + length into.old ≤ 512 * self.now.list.len }
+        ensures { into.new ≡ run (content self.now.pages.now self.now.list.list self.now.list.len) at (length into.old) }
+    {
+        let pages: &[[u8; 512]; 128] = self.pages;
+        for (i, byte) in into.iter_mut().enumerate() {
+            let a = at + i;
+            *byte = pages[self.list.page(a)][a % 512];
+        }
+    }
+
+    // Puts the given bytes in the place of those from `at` on.
+    fn store(&mut self, at: usize, from: &[u8])
+        requires { at + length from.now ≤ 512 * self.old.list.len }
+        ensures after { content self.new.pages.now self.old.list.list self.old.list.len ≡ overwrite (content self.old.pages.now self.old.list.list self.old.list.len) at from.now }
+        ensures lent { self.new.pages.ghost_name ≡ self.old.pages.ghost_name }
+        ensures list { self.new.list ≡ self.old.list }
+    {
+        for (i, byte) in from.iter().enumerate() {
+            let a = at + i;
+            put(self.pages, self.list.page(a), a % 512, *byte);
+        }
     }
 }
 
@@ -68,13 +75,13 @@ impl<'a> Medium for Pages<'a> {
 
     fn read(&self, at: usize, into: &mut [u8]) -> Result<(), Refusal> {
         end_of(self.size(), at, into.len())?;
-        fetch(self.pages, &self.list, at, into);
+        self.fetch(at, into);
         Ok(())
     }
 
     fn write(&mut self, at: usize, from: &[u8]) -> Result<(), Refusal> {
         end_of(self.size(), at, from.len())?;
-        store(self.pages, &self.list, at, from);
+        self.store(at, from);
         Ok(())
     }
 }

@@ -28,6 +28,7 @@ fn report_boxed<K: BoxedKind>(
 }
 
 // The report on a view.
+// Stays: three arms have one text, but each has a table of another type, which one pattern cannot bind; a `dyn` table or a closure for all three would name the types again, and is no plainer.
 fn report_view(heap: Global, view: &View<'_>, window: Option<Bounds>) -> Result<String, Unanswered>
     ensures { Answered (by_view (file_seen view.now) (option_map edges_of window) (Ok (kind_seen view.now, shape_seen view.now))) result }
 {

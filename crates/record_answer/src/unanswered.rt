@@ -19,6 +19,7 @@ pub enum Unanswered {
     NoBoxes,
 }
 
+// Stays: here and below `from_gives` says which fault comes of it, as the contracts of those who convert need, and `#[from]` writes a `From` that says nothing.
 impl From<AllocError> for Unanswered {
     ghost from_gives = { λ _ e. e ≡ NoMemory };
 
@@ -35,6 +36,7 @@ impl From<Refusal> for Unanswered {
     }
 }
 
+// Stays: `output` says what is printed, which is promised, and the derive of `thiserror` writes a `Display` that says nothing.
 impl fmt::Display for Unanswered {
     ghost output = { λ e. Some (unanswered_text e) };
 

@@ -13,21 +13,25 @@ ghost use Rattle.record_answer.specs.declared.unanswered.Unanswered.{Unanswered 
 use record_answer::answers::answer;
 use record_answer::unanswered::Unanswered;
 use record_request::{Fault, read_request};
-use std::error::Error;
 use std::fs::Files;
-use std::{fmt, fs, io};
+use std::{fs, io};
+use thiserror::Error;
 
 /// Why the words of a request have no report.
-#[derive(Debug, Drop)]
+#[derive(Debug, Drop, Error)]
 pub enum Failure<'w> {
     /// The words are no request.
+    #[error("{0}")]
     Words(Fault),
     /// The file that they name cannot be read.
+    #[error("cannot read {0}: {1}")]
     Unread(&'w str, io::Error),
     /// The request has no report.
+    #[error("{0}")]
     Unanswered(Unanswered),
 }
 
+// Stays: here and below `from_gives` says which fault comes of it, as the contracts of those who convert need, and `#[from]` writes a `From` that says nothing.
 impl<'w> From<Fault> for Failure<'w> {
     ghost from_gives = { λ fault e. e ≡ Words fault };
 
@@ -43,18 +47,6 @@ impl<'w> From<Unanswered> for Failure<'w> {
         Self::Unanswered(why)
     }
 }
-
-impl fmt::Display for Failure<'_> {
-    fn fmt<W: fmt::Write>(&self, f: &mut fmt::Formatter<W>) -> fmt::Result {
-        match self {
-            Failure::Words(fault) => write!(f, "{fault}"),
-            Failure::Unread(path, e) => write!(f, "cannot read {path}: {e}"),
-            Failure::Unanswered(e) => write!(f, "{e}"),
-        }
-    }
-}
-
-impl Error for Failure<'_> {}
 
 /// The report that the words after a program's name ask for: a letter, a file, and options.
 /// The words are judged first, then the file is read, and then the request is answered.

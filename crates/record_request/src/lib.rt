@@ -10,8 +10,7 @@ ghost use Rattle.record_request.specs.Requests.{arcs_option, corners, WindowGive
 use boxes::edges::Edges;
 use boxes::wording::NODES_HAVE_NO_BOXES;
 use line_words::texts::{after, text_at};
-use std::error::Error;
-use std::fmt;
+use thiserror::Error;
 use words::{character, decimal, whole};
 
 /// A request for the records of a file.
@@ -24,29 +23,19 @@ pub struct Request {
 }
 
 /// What is wrong with the words of a request.
-#[derive(Clone, Copy, PartialEq, Eq, Debug)]
+#[derive(Clone, Copy, PartialEq, Eq, Debug, Error)]
 pub enum Fault {
+    #[error("usage: sheet_records LETTER FILE [--arcs N] [--window MIN_X MAX_X MIN_Y MAX_Y]")]
     Usage,
+    #[error("the letter is one character: T, A, N or P")]
     Letter,
+    #[error("--arcs takes a whole number from 0 to 18446744073709551615")]
     Arcs,
+    #[error("--window takes four decimal numbers: MIN_X MAX_X MIN_Y MAX_Y")]
     Window,
+    #[error("{}", NODES_HAVE_NO_BOXES)]
     NoBoxes,
 }
-
-impl fmt::Display for Fault {
-    fn fmt<W: fmt::Write>(&self, f: &mut fmt::Formatter<W>) -> fmt::Result {
-        f.write_str(match self {
-            Fault::Usage =>
-                "usage: sheet_records LETTER FILE [--arcs N] [--window MIN_X MAX_X MIN_Y MAX_Y]",
-            Fault::Letter => "the letter is one character: T, A, N or P",
-            Fault::Arcs => "--arcs takes a whole number from 0 to 18446744073709551615",
-            Fault::Window => "--window takes four decimal numbers: MIN_X MAX_X MIN_Y MAX_Y",
-            Fault::NoBoxes => NODES_HAVE_NO_BOXES,
-        })
-    }
-}
-
-impl Error for Fault {}
 
 // What the options of a request give.
 #[derive(Clone, Copy, Default)]

@@ -1,7 +1,7 @@
 -- The rings of one function under the numbers of another.
 use Rattle.std.proofs.Common.{◌≡◌, ℕ, ◌+◌, ◌<◌, ◌≤◌, eqb, ltb, List, [], ◌∷◌, map, sym, refl, ap, ◌∙◌, subst, inl, inr, arith}
 use Rattle.std.proofs.lemmas.Bool.{cases_eq, cases_lt, eq-eqb}
-use Rattle.rings.specs.Circles.{one_if, occ, Chain, Circles, ring, rings}
+use Rattle.rings.specs.Circles.{one_if, occ, Chain, ring, rings}
 use Rattle.rings.specs.Law.{Ringed}
 use Rattle.rings.proofs.Occurs.{one_same, one_other, one_most, one_below, below_one}
 use Rattle.rings.proofs.Chains.{picked}
@@ -16,11 +16,10 @@ module _ (α β f g : ℕ → ℕ) (n m : ℕ) (low : (k : ℕ) → k < m → α
       let (a, b) = occ_under k xs (λ y l. h y (omega arith)) in
       let lx = h x (omega (arith, one_same x)) in
       elim (cases_eq k (α x)) [
-        | inl e ↦
-            (
-              omega (arith, a, one_most (eqb k (α x)), ap one_if (eq-eqb (β k) x (ap β e ∙ back x lx))),
-              λ _. subst (λ (y : ℕ). y < n) (sym e) (low x lx),
-            )
+        | inl e ↦ (
+          omega (arith, a, one_most (eqb k (α x)), ap one_if (eq-eqb (β k) x (ap β e ∙ back x lx))),
+          λ _. subst (λ (y : ℕ). y < n) (sym e) (low x lx),
+        )
         | inr ne ↦ (omega (arith, a, one_other k (α x) ne), λ l. b (omega (arith, one_other k (α x) ne)))
       ]
 

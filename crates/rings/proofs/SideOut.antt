@@ -5,7 +5,7 @@ use Rattle.rings.specs.Circles.{one_if, occ, Chain, Circles, Exchanged, names, r
 use Rattle.rings.specs.Law.{Ringed, Along}
 use Rattle.rings.specs.Edits.{leave}
 use Rattle.rings.specs.LetIn.{without}
-use Rattle.rings.proofs.Occurs.{one_same, one_other, one_most, one_below, below_one}
+use Rattle.rings.proofs.Occurs.{one_same, one_most, one_below, below_one}
 use Rattle.rings.proofs.Chains.{picked}
 use Rattle.rings.proofs.Surgery.{InOne, in_one, cut, names_from}
 use Rattle.rings.proofs.Listing.{ring_is, listed}

@@ -1,6 +1,6 @@
 -- Where just two ends of two arcs meet, one arc goes on in place of the other: the sides s and t begin at the node, and the other arc's, t and its
 -- opposite, leave their rings. In the turns s takes the place of the opposite of t.
-use Rattle.std.proofs.Common.{◌≡◌, ℕ, suc, ◌+◌, ◌%◌, ◌<◌, eqb, cond, List, map, length, sym, refl, ap, ◌∙◌, inl, inr, arith}
+use Rattle.std.proofs.Common.{◌≡◌, ℕ, suc, ◌+◌, ◌%◌, ◌<◌, eqb, cond, map, length, sym, refl, ap, ◌∙◌, inl, inr, arith}
 use Rattle.std.proofs.lemmas.Bool.{cases_eq, cond-true, cond-false, eq-eqb, ne_eqb}
 use Rattle.rings.specs.Circles.{one_if, occ, Circles, names, ring, rings}
 use Rattle.rings.specs.Law.{opp, turn, Ringed, Closes, Along, Noded}

@@ -27,6 +27,7 @@ fn answer(rt: &HostRuntime, map: &mut Map, read: io::Result<Vec<u8>>) -> anyhow:
 }
 
 // Plays the lines of standard input.
+// Stays: this and `run` are nearly `play` and `run` of `journal_vectors`, where a fault is told and the lines go on. One function for both would take the reader and a closure for what a fault does, around one `for`, and is no plainer.
 fn play(rt: &HostRuntime, map: &mut Map) -> anyhow::Result<ExitCode> {
     let input = BufReader::new(rt.alloc(), rt.stdin())?;
     for (number, read) in (1u64..).zip(input.split(rt.alloc(), b'\n')) {

@@ -1,5 +1,5 @@
 -- A map whose table of sides has lost those of an arc between two rings.
-use Rattle.std.proofs.Common.{◌≡◌, ℕ, suc, ◌+◌, ◌-◌, ◌/◌, ◌<◌, ◌≤◌, false, ◌&&◌, ◌||◌, ltb, cond, eqb, List, map, length, get_or, take, drop, set, Ok, Err, sym, refl, ap, ◌∙◌, subst, arith}
+use Rattle.std.proofs.Common.{◌≡◌, ℕ, suc, ◌+◌, ◌-◌, ◌/◌, ◌<◌, ◌≤◌, false, ◌&&◌, ◌||◌, ltb, List, length, get_or, take, drop, Ok, Err, sym, refl, ap, ◌∙◌, subst, arith}
 use Rattle.std.proofs.lemmas.Bool.{lt-ltb, cond-true, cond-false}
 use Rattle.refusal.specs.declared.Refusal.TheVariants.{NoSuchElement, SidesShareRing, RingsAlone}
 use Rattle.rings.specs.Circles.{rings, meets}
@@ -8,16 +8,14 @@ use Rattle.topology.specs.declared.side.Side.{Side}
 use Rattle.topology.specs.declared.vertex.Vertex.{Vertex}
 use Rattle.topology.specs.declared.table.Table.{Table}
 use Rattle.topology.specs.declared.map.Map.{Map}
-use Rattle.topology.specs.declared.renumbering.Renumbering.{Renumbering}
 use Rattle.topology.specs.Rows.{no_side, next_of}
 use Rattle.topology.specs.States.{State, state_of}
 use Rattle.topology.specs.Tables.{Holds}
 use Rattle.topology.specs.Lawfuls.{Lawful}
 use Rattle.topology.specs.Questions.{arc_count, Rises}
-use Rattle.topology.specs.Renumbered.{renumbered}
-use Rattle.topology.specs.Lifts.{lift_numbers, rows_without, lifted_sides, polygons_left, lifted}
+use Rattle.topology.specs.Lifts.{lifted_sides, polygons_left, lifted}
 use Rattle.topology.specs.Dissolves.{share_ring, both_alone, freed, set_free, dissolve_outcome, RingsMerged, PutBack}
-use Rattle.std.proofs.lemmas.List.{drop-drop, length-set, length-map, length-take-le}
+use Rattle.std.proofs.lemmas.List.{length-set, length-map, length-take-le}
 use Rattle.topology.proofs.Growth.{held_used}
 use Rattle.topology.proofs.Assembling.{lawful_at, lawful_of, state_from}
 use Rattle.topology.proofs.TakenOut.{sides_are, used_are, length_are, rows_long, rest_are, lent_are}

@@ -1,5 +1,5 @@
 -- The rows of sides as the code of a join sets them.
-use Rattle.std.proofs.Common.{◌≡◌, ℕ, ◌+◌, ◌/◌, ◌%◌, ◌<◌, eqb, cond, List, length, get_or, set, sym, refl, ap, ◌∙◌, inl, inr, arith}
+use Rattle.std.proofs.Common.{◌≡◌, ℕ, ◌/◌, ◌%◌, ◌<◌, eqb, cond, List, length, get_or, set, sym, refl, ap, ◌∙◌, inl, inr, arith}
 use Rattle.std.proofs.lemmas.Bool.{cases_eq, cond-true, cond-false, eq-eqb, ne_eqb}
 use Rattle.std.proofs.lemmas.List.{get_or-set_same, get_or-set_other, length-set, same_lists, get_or_default}
 use Rattle.std.proofs.lemmas.List.FromFn.{length-map-range_with_len, get_or-map-range_with_len}
@@ -9,7 +9,7 @@ use Rattle.rings.specs.Edits.{swapped, leave}
 use Rattle.rings.proofs.Ringed.{ringed_circles}
 use Rattle.rings.proofs.Closed.{one_image}
 use Rattle.rings.proofs.Exchange.{swapped_first, swapped_second, swapped_else}
-use Rattle.rings.proofs.SideOut.{leave_at, leave_past, leave_else}
+use Rattle.rings.proofs.SideOut.{leave_past, leave_else}
 use Rattle.rings.proofs.TakesOver.{over_t, over_u, over_o, over_else}
 use Rattle.topology.specs.declared.side.Side.{Side}
 use Rattle.topology.specs.Rows.{no_side, next_of, node_of, polygon_of, row_of, low_of}

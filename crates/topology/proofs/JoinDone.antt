@@ -1,32 +1,23 @@
 -- A map two of whose arcs have become one.
-use Rattle.std.proofs.Common.{◌≡◌, ℕ, suc, ◌+◌, ◌-◌, ◌/◌, ◌%◌, ◌<◌, ◌≤◌, true, false, ◌&&◌, Bool, cond, eqb, ltb, leb, List, ◌++◌, map, length, get_or, take, drop, Ok, Err, Some, None, is_some, unwrap_or, sym, refl, ap, ◌∙◌, subst, inl, inr, arith}
-use Rattle.std.specs.Prelude.{slice_range}
-use Rattle.std.proofs.lemmas.Bool.{cases_eq, lt-ltb, cond-true, cond-false, eq-eqb, ne_eqb, and_parts, leb-true, le-ltb, false≢true}
-use Rattle.std.proofs.lemmas.List.{length-take-le, length-append, get_or-append_right}
+use Rattle.std.proofs.Common.{◌≡◌, ℕ, suc, ◌+◌, ◌-◌, ◌/◌, ◌≤◌, true, List, ◌++◌, length, get_or, take, drop, sym, ap, ◌∙◌, subst, arith}
+use Rattle.std.proofs.lemmas.List.{length-take-le, length-append}
 use Rattle.std.proofs.lemmas.List.FromFn.{length-map-range_with_len}
-use Rattle.refusal.specs.declared.Refusal.TheVariants.{NoSuchElement, NotTwoEndsOfTwoArcs, NoRoom}
-use Rattle.rings.specs.Circles.{ring, rings}
-use Rattle.rings.specs.Law.{opp, turn}
-use Rattle.rings.specs.Edits.{swapped, exchanged}
-use Rattle.rings.specs.LetIn.{without}
 use Rattle.topology.specs.declared.side.Side.{Side}
 use Rattle.topology.specs.declared.vertex.Vertex.{Vertex}
 use Rattle.topology.specs.declared.table.Table.{Table}
 use Rattle.topology.specs.declared.map.Map.{Map}
-use Rattle.topology.specs.Rows.{no_side, no_vertex, next_of, node_of, row_of, start_of}
+use Rattle.topology.specs.Rows.{no_side}
 use Rattle.topology.specs.States.{State, state_of}
 use Rattle.topology.specs.Tables.{Holds, Grown}
 use Rattle.topology.specs.Lawfuls.{Lawful}
-use Rattle.topology.specs.Questions.{Rises}
 use Rattle.topology.specs.Kept.{Stands}
 use Rattle.topology.specs.Islands.{vertex_room}
 use Rattle.topology.specs.Lifts.{lifted_sides, polygons_left}
 use Rattle.topology.specs.Dissolves.{PutBack}
-use Rattle.topology.specs.Joins.{ends, of_two_arcs, TwoEnds, turned_if, run_of, joined_run, joined_at, joined_sides, gone_on, lower_end, higher_end, joined, join_outcome, Joined}
+use Rattle.topology.specs.Joins.{TwoEnds, joined_run, joined_at, joined_sides, joined}
 use Rattle.topology.proofs.Assembling.{lawful_at, lawful_of, state_from, vertices_told}
 use Rattle.topology.proofs.Growth.{held_used}
-use Rattle.topology.proofs.LiftLaw.{lifted_long}
-use Rattle.topology.proofs.TakenOut.{sides_are, used_are, length_are, rows_long, rest_are, lent_are}
+use Rattle.topology.proofs.TakenOut.{sides_are, used_are, rows_long, rest_are, lent_are}
 use Rattle.topology.proofs.JoinStates.{two_more, run_many, long_us, law₂, stay}
 
 module _ (m : Map) (s t : ℕ) (w : TwoEnds (state_of m).sides s t) where
@@ -134,14 +125,3 @@ module _ (m : Map) (s t : ℕ) (w : TwoEnds (state_of m).sides s t) where
 
     pub lent_kept : x.rows.ghost_name ≡ m.sides.rows.ghost_name
     lent_kept = lent_are m.sides r q x us₁ m.nodes m.polygons b z used_now (long_us (state_of m) law s t w) went₁ shrunk back
-
-
--- what was found is what there is
-pub found_told : {X : Type 0} (b : Bool) (x y : X) → Some x ≡ cond b (Some y) None → (b ≡ true) × (x ≡ y)
-found_told true x y e = (refl, ap (λ o. unwrap_or o x) e)
-found_told false x y e = absurd (false≢true (sym (ap is_some e)))
-
-pub none_told : {X : Type 0} (b : Bool) (y : X) → None ≡ cond b (Some y) None → b ≡ false
-none_told true y e = absurd (false≢true (ap is_some e))
-none_told false y e = refl
-

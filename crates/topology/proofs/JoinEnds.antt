@@ -1,18 +1,18 @@
 -- The sides that begin at a node, where just two do, of two arcs.
-use Rattle.std.proofs.Common.{◌≡◌, ℕ, suc, ◌+◌, ◌-◌, ◌/◌, ◌%◌, ◌<◌, ◌≤◌, Bool, true, false, not, ◌&&◌, eqb, ltb, cond, ◌⊎◌, List, [], ◌∷◌, length, get_or, Some, None, is_some, sym, refl, ap, ◌∙◌, subst, inl, inr, arith}
+use Rattle.std.proofs.Common.{◌≡◌, ℕ, suc, ◌+◌, ◌-◌, ◌/◌, ◌<◌, Bool, true, false, not, ◌&&◌, eqb, ltb, cond, List, [], ◌∷◌, length, get_or, Some, None, is_some, sym, refl, ap, ◌∙◌, subst, inl, inr, arith}
 use Rattle.std.specs.List.{position, position_or_len}
 use Rattle.std.specs.Bool.{then_some}
-use Rattle.std.proofs.lemmas.Bool.{cases_eq, cases_lt, cases_Bool, eq-eqb, ne_eqb, eqb-true, and_from, and_left, and_right, and_parts, lt-ltb, le-ltb, cond-true, cond-false, not_from_true, not_from_false, both_ways, false≢true, ltb-true}
+use Rattle.std.proofs.lemmas.Bool.{cases_eq, cases_lt, cases_Bool, eq-eqb, ne_eqb, eqb-true, and_from, and_left, and_right, and_parts, lt-ltb, le-ltb, cond-true, not_from_true, not_from_false, both_ways, false≢true, ltb-true}
 use Rattle.std.proofs.lemmas.List.Quantifiers.{position-Some}
 use Rattle.std.proofs.lemmas.List.Sums.{fails_before_first}
-use Rattle.rings.specs.Circles.{one_if, occ, kept, meets, ring, rings}
+use Rattle.rings.specs.Circles.{one_if, occ, ring, rings}
 use Rattle.rings.specs.Law.{opp, turn}
-use Rattle.rings.proofs.Occurs.{one_same, one_other, one_most, one_below, below_one}
+use Rattle.rings.proofs.Occurs.{one_same, one_other, one_below}
 use Rattle.rings.proofs.Lows.{kept_occ, Up, kept_up, up_one}
 use Rattle.rings.proofs.Listing.{ring_is}
 use Rattle.rings.proofs.Ringed.{ringed_circles}
 use Rattle.rings.proofs.Closed.{within}
-use Rattle.rings.proofs.Split.{opp_low, opp_opp}
+use Rattle.rings.proofs.Split.{opp_low}
 use Rattle.rings.proofs.Words.{turn_meets}
 use Rattle.topology.specs.declared.side.Side.{Side}
 use Rattle.topology.specs.declared.vertex.Vertex.{Vertex}
@@ -64,8 +64,7 @@ module _ (us : List Side) (v : ℕ) where
       let (e, apart) = two_listed es h in
       let up = subst (Up 0) e (kept_up here (length us)) in
       let fs = from_there s (omega (arith, ap (occ s) e, one_same s)) in
-      let ft = from_there t (omega (arith, ap (occ t) e, one_same t)) in
-      (
+      let ft = from_there t (omega (arith, ap (occ t) e, one_same t)) in (
         record {
           rising = up.1.0;
           below = ft.0;

@@ -1,22 +1,21 @@
 -- A join keeps the law.
-use Rattle.std.proofs.Common.{◌≡◌, ℕ, suc, ◌+◌, ◌-◌, ◌/◌, ◌%◌, ◌<◌, ◌≤◌, min, max, true, false, ◌&&◌, ◌||◌, eqb, ltb, leb, cond, not, ◌⊎◌, List, ◌++◌, map, length, get_or, take, drop, sym, refl, ap, ◌∙◌, subst, inl, inr, arith}
-use Rattle.std.specs.List.{range_with_len}
+use Rattle.std.proofs.Common.{◌≡◌, ℕ, suc, ◌+◌, ◌-◌, ◌/◌, ◌%◌, ◌<◌, ◌≤◌, min, max, true, ◌&&◌, ◌||◌, eqb, ltb, cond, not, ◌⊎◌, List, ◌++◌, map, length, get_or, take, drop, sym, refl, ap, ◌∙◌, subst, inl, inr, arith}
 use Rattle.std.proofs.lemmas.Bool.{cases_eq, cases_lt, cond-true, cond-false, eq-eqb, ne_eqb, and_from, and_right, or_left, or_right, not_from_false, lt-ltb, le-ltb}
-use Rattle.std.proofs.lemmas.List.{get_or-map, get_or_append_left, get_or-append_right, length-append, length-map, length-take, length-drop, same_lists, places, drop_at, take_all}
+use Rattle.std.proofs.lemmas.List.{get_or-map, get_or_append_left, get_or-append_right, length-append, length-map, drop_at, take_all}
 use Rattle.std.proofs.lemmas.Bool.Decides.{nat_tests}
 use Rattle.std.proofs.lemmas.List.FromFn.{length-map-range_with_len, get_or-map-range_with_len}
-use Rattle.rings.specs.Circles.{one_if, occ, names, ring, rings, meets}
+use Rattle.rings.specs.Circles.{one_if, ring, rings, meets}
 use Rattle.rings.specs.Law.{opp, turn, Ringed}
 use Rattle.rings.specs.Edits.{swapped, exchanged, fill, leave}
 use Rattle.rings.specs.LetIn.{without}
-use Rattle.rings.proofs.Occurs.{one_same, one_other, one_below}
+use Rattle.rings.proofs.Occurs.{one_other}
 use Rattle.rings.proofs.Ringed.{ringed_circles}
 use Rattle.rings.proofs.Closed.{within}
 use Rattle.rings.proofs.Split.{opp_low, opp_opp}
 use Rattle.rings.proofs.Words.{turn_meets}
 use Rattle.rings.proofs.Exchange.{swapped_twice, swapped_low, swapped_first, swapped_second, swapped_else, exchanged_twice, exchanged_opp, exchanged_else, exchanged_even, exchanged_odd}
 use Rattle.rings.proofs.Renamed.{ring_renamed}
-use Rattle.rings.proofs.TakesOver.{ringed_over, count_over, over_t, over_u, along_over, names_over, ring_over, turned_over, turn_over, closes_over, noded_over}
+use Rattle.rings.proofs.TakesOver.{ringed_over, count_over, along_over, names_over, ring_over, turned_over, turn_over, closes_over, noded_over}
 use Rattle.topology.specs.declared.side.Side.{Side}
 use Rattle.topology.specs.declared.vertex.Vertex.{Vertex}
 use Rattle.topology.specs.Rows.{no_side, no_vertex, next_of, node_of, polygon_of, row_of, low_of, good, start_of}

@@ -1,8 +1,8 @@
 -- The state of a map two of whose arcs have become one.
-use Rattle.std.proofs.Common.{◌≡◌, ℕ, suc, ◌+◌, ◌-◌, ◌/◌, ◌%◌, ◌<◌, ◌≤◌, true, false, ◌&&◌, Bool, cond, eqb, ltb, leb, List, ◌++◌, map, length, get_or, take, drop, Ok, Err, Some, None, is_some, unwrap_or, sym, refl, ap, ◌∙◌, subst, inl, inr, arith}
+use Rattle.std.proofs.Common.{◌≡◌, ℕ, suc, ◌+◌, ◌-◌, ◌/◌, ◌%◌, ◌<◌, ◌≤◌, true, false, cond, eqb, ltb, List, ◌++◌, map, length, get_or, take, drop, Ok, Err, sym, refl, ap, ◌∙◌, subst, inl, inr, arith}
 use Rattle.std.specs.Prelude.{slice_range}
-use Rattle.std.proofs.lemmas.Bool.{cases_eq, cond_both, ltb-true, lt-ltb, cond-true, cond-false, eq-eqb, ne_eqb, and_parts, leb-true, le-ltb, false≢true}
-use Rattle.std.proofs.lemmas.List.{length-take-le, length-append, get_or-append_right}
+use Rattle.std.proofs.lemmas.Bool.{cases_eq, cond_both, ltb-true, lt-ltb, cond-true, cond-false, eq-eqb, ne_eqb, le-ltb}
+use Rattle.std.proofs.lemmas.List.{get_or-append_right}
 use Rattle.std.proofs.lemmas.List.FromFn.{length-map-range_with_len}
 use Rattle.refusal.specs.declared.Refusal.TheVariants.{NoSuchElement, NotTwoEndsOfTwoArcs, NoRoom}
 use Rattle.rings.specs.Circles.{ring, rings}
@@ -11,19 +11,19 @@ use Rattle.rings.specs.Edits.{swapped, exchanged}
 use Rattle.rings.specs.LetIn.{without}
 use Rattle.topology.specs.declared.side.Side.{Side}
 use Rattle.topology.specs.declared.vertex.Vertex.{Vertex}
-use Rattle.topology.specs.Rows.{no_side, no_vertex, next_of, node_of, row_of, start_of}
+use Rattle.topology.specs.Rows.{no_vertex, next_of, row_of, start_of}
 use Rattle.topology.specs.States.{State}
 use Rattle.topology.specs.Lawfuls.{Lawful}
 use Rattle.topology.specs.Questions.{Rises}
 use Rattle.topology.specs.Kept.{Stands}
-use Rattle.topology.specs.Islands.{all_good, vertex_room}
+use Rattle.topology.specs.Islands.{vertex_room}
 use Rattle.topology.specs.Lifts.{lifted_sides, polygons_left}
-use Rattle.topology.specs.Joins.{ends, of_two_arcs, TwoEnds, turned_if, run_of, joined_run, joined_at, joined_sides, gone_on, lower_end, higher_end, joined, join_outcome, Joined}
+use Rattle.topology.specs.Joins.{ends, of_two_arcs, TwoEnds, turned_if, run_of, joined_run, joined_at, joined_sides, lower_end, higher_end, joined, join_outcome, Joined}
 use Rattle.topology.proofs.Assembling.{lawful_at}
 use Rattle.topology.proofs.Settled.{Kept, refused}
 use Rattle.topology.proofs.LiftLaw.{lifted_long}
-use Rattle.topology.proofs.JoinRuns.{two, joined_long, joined_many, joined_start, joined_end, joined_good, joined_turned, joined_unturned}
-use Rattle.topology.proofs.JoinLaw.{to_t, to_s, long₁, row_joined, polygons_stay, join_rings, join_lawful, rings₂, turns₂, nodes₂, polygons₂, one_run₂, other_runs₂}
+use Rattle.topology.proofs.JoinRuns.{joined_long, joined_many, joined_start, joined_end, joined_good, joined_turned, joined_unturned}
+use Rattle.topology.proofs.JoinLaw.{to_t, to_s, row_joined, polygons_stay, join_rings, join_lawful, rings₂, turns₂, nodes₂, polygons₂, one_run₂, other_runs₂}
 use Rattle.topology.proofs.JoinEnds.{ends_tell}
 
 -- the two ends of a node, from the outcome's words for them

@@ -1,4 +1,6 @@
 pub mod Enumerated
+pub mod Rounds
+pub mod Asked
 pub mod Lowest
 pub mod Growth
 pub mod Appended

@@ -1,6 +1,5 @@
 -- A map whose table of sides has lost those of a closed arc.
-use Rattle.std.proofs.Common.{◌≡◌, ℕ, suc, ◌+◌, ◌-◌, ◌/◌, ◌<◌, ◌≤◌, Bool, true, cond, eqb, List, map, length, take, sym, refl, ap, ◌∙◌, subst, arith, min, max}
-use Rattle.std.proofs.lemmas.Bool.Decides.{nat_tests}
+use Rattle.std.proofs.Common.{◌≡◌, ℕ, suc, ◌+◌, ◌-◌, ◌/◌, ◌<◌, ◌≤◌, true, List, length, take, sym, refl, ap, ◌∙◌, subst, arith}
 use Rattle.std.proofs.lemmas.List.{length-take-le}
 use Rattle.rings.specs.Circles.{rings}
 use Rattle.rings.proofs.Words.{node_low}
@@ -8,14 +7,12 @@ use Rattle.topology.specs.declared.side.Side.{Side}
 use Rattle.topology.specs.declared.vertex.Vertex.{Vertex}
 use Rattle.topology.specs.declared.table.Table.{Table}
 use Rattle.topology.specs.declared.map.Map.{Map}
-use Rattle.topology.specs.declared.renumbering.Renumbering.{Renumbering}
-use Rattle.topology.specs.Rows.{next_of, node_of, polygon_of}
+use Rattle.topology.specs.Rows.{next_of, node_of}
 use Rattle.topology.specs.States.{state_of}
 use Rattle.topology.specs.Tables.{Holds}
 use Rattle.topology.specs.Lawfuls.{Lawful}
 use Rattle.topology.specs.Questions.{arc_count}
-use Rattle.topology.specs.Renumbered.{renumbered}
-use Rattle.topology.specs.Lifts.{closed_alone, ring_left, lift_numbers, rows_without, lifted_sides, polygons_left}
+use Rattle.topology.specs.Lifts.{closed_alone, ring_left, lifted_sides, polygons_left}
 use Rattle.topology.proofs.TakenOut.{taken_used}
 use Rattle.topology.proofs.Assembling.{lawful_at, lawful_of}
 use Rattle.topology.proofs.LiftLaw.{lift_lawful, lift_rings}

@@ -1,29 +1,16 @@
 -- The sides of an arc taken out of a table.
-use Rattle.std.proofs.Common.{◌≡◌, ℕ, suc, ◌+◌, ◌-◌, ◌<◌, ◌≤◌, Bool, cond, eqb, List, length, get_or, take, drop, set, sym, ap, ◌∙◌, arith, min, max}
-use Rattle.std.proofs.lemmas.Bool.Decides.{nat_tests}
+use Rattle.std.proofs.Common.{◌≡◌, ℕ, suc, ◌+◌, ◌-◌, ◌≤◌, List, length, get_or, take, drop, set, sym, ap, ◌∙◌, arith}
 use Rattle.std.proofs.lemmas.List.{drop-drop, length-take-le}
 use Rattle.topology.specs.declared.side.Side.{Side}
 use Rattle.topology.specs.declared.table.Table.{Table}
-use Rattle.topology.specs.declared.renumbering.Renumbering.{Renumbering}
-use Rattle.topology.specs.Rows.{no_side, polygon_of}
+use Rattle.topology.specs.Rows.{no_side}
 use Rattle.topology.specs.Tables.{Holds}
 use Rattle.topology.specs.Renumbered.{renumbered}
-use Rattle.topology.specs.Lifts.{lift_numbers, lifted_sides, polygons_left}
+use Rattle.topology.specs.Lifts.{lift_numbers, lifted_sides}
 use Rattle.topology.specs.Dissolves.{PutBack}
 use Rattle.topology.proofs.FreedRows.{back_rows, back_long, back_rest}
 use Rattle.topology.proofs.Growth.{held_used}
 use Rattle.topology.proofs.Shrinking.{removed_used}
-
-one_polygon : (p q : ℕ) → eqb (max p q) (min p q) ≡ eqb p q
-one_polygon p q = grind (arith, nat_tests)
-
--- how many polygons are left, as the numbers tell it
-pub left_told : (us : List Side) (c : Renumbering) (nodes polygons a left : ℕ) → c ≡ lift_numbers us nodes polygons a → left ≡ cond (eqb c.polygon c.into) polygons (polygons - 1) →
-    left ≡ polygons_left us polygons a
-left_told us c nodes polygons a left d h =
-    h
-    ∙ (ap (λ (r : Renumbering). cond (eqb r.polygon r.into) polygons (polygons - 1)) d
-    ∙ ap (λ (b : Bool). cond b polygons (polygons - 1)) (one_polygon (polygon_of us (a + a)) (polygon_of us (a + a + 1))))
 
 pub taken_used : (t s : Table Side) (nodes polygons a : ℕ) → Holds t s (lifted_sides (take t.used t.rows.now) nodes polygons a) → s.used ≡ t.used - 2
 taken_used t s nodes polygons a h = removed_used (renumbered (lift_numbers (take t.used t.rows.now) nodes polygons a)) t s a h

@@ -1,5 +1,5 @@
--- A walk along a ring: the lowest side found, and each side told its polygon and lowest side.
-use Rattle.std.proofs.Common.{◌≡◌, ℕ, suc, ◌+◌, ◌-◌, ◌<◌, ◌≤◌, Bool, cond, List, map, length, get_or, set, sym, refl, ap, ◌∙◌, subst, inl, inr, min, arith}
+-- A walk along a ring: each side is told its polygon and lowest side.
+use Rattle.std.proofs.Common.{◌≡◌, ℕ, suc, ◌+◌, ◌-◌, ◌<◌, ◌≤◌, Bool, cond, List, map, length, get_or, set, sym, refl, ap, ◌∙◌, subst, inl, inr, arith}
 use Rattle.std.specs.List.{range_with_len}
 use Rattle.std.proofs.lemmas.Bool.{cases_eq, cond_both}
 use Rattle.std.proofs.lemmas.List.{length-set, get_or-set_same, get_or-set_other}
@@ -7,17 +7,11 @@ use Rattle.std.proofs.lemmas.List.FromFn.{fill_by_all}
 use Rattle.rings.specs.Circles.{walk, ahead, rings}
 use Rattle.rings.specs.Law.{Ringed}
 use Rattle.rings.proofs.Walks.{ahead_here, ahead_back, ahead_more, walk_more, ring_short}
-use Rattle.rings.proofs.Ringwise.{walk_on}
 use Rattle.rings.proofs.Closed.{within}
 use Rattle.rings.proofs.Ringed.{ringed_circles}
 use Rattle.topology.specs.declared.side.Side.{Side}
 use Rattle.topology.specs.Rows.{no_side, next_of}
-use Rattle.topology.specs.Divisions.{lowest_of, told_side, told_at}
-
--- ---- the lowest side
-
-pub lowest_on : (f : ℕ → ℕ) (fuel m s p low : ℕ) → fuel ≡ suc m → (f p ≡ s → ⊥) → lowest_of low (walk f fuel s p) ≡ lowest_of (min low (f p)) (walk f m s (f p))
-lowest_on f fuel m s p low e ne = ap (lowest_of low) (walk_on f fuel m s p e ne)
+use Rattle.topology.specs.Divisions.{told_side, told_at}
 
 -- ---- what a ring is told
 

@@ -1,5 +1,5 @@
 -- What each question answers, for every map and every argument.
-use Rattle.std.specs.Prelude.{◌≡◌, ℕ, ◌+◌, ◌-◌, ◌/◌, ◌<◌, ◌≤◌, true, cond, List, length, Ok, Err, Result, nat_le, nat_lt, slice_index, slice_index_or}
+use Rattle.std.specs.Prelude.{◌≡◌, ℕ, ◌+◌, ◌-◌, ◌/◌, ◌<◌, ◌≤◌, Bool, true, cond, ◌&&◌, List, length, Ok, Err, Result, nat_le, nat_lt, slice_index, slice_index_or}
 use Rattle.refusal.specs.declared.Refusal.{Refusal}
 use Rattle.refusal.specs.declared.Refusal.TheVariants.{NoSuchElement}
 use Rattle.rings.specs.Circles.{Circles, rings, starts, meets, Lowest, Rising}
@@ -12,12 +12,32 @@ use Rattle.topology.specs.States.{State}
 abbrev pub arc_count : State → ℕ
 arc_count m = length m.sides / 2
 
+-- taken where there is such an arc
+abbrev pub known_arc : State → ℕ → Result (Unit {0}) Refusal
+known_arc m a = cond (nat_lt a (arc_count m)) (Ok tt) (Err NoSuchElement)
+
 abbrev pub side_row : State → ℕ → Result Side Refusal
 side_row m s = cond (nat_lt s (length m.sides)) (Ok (slice_index_or m.sides s no_side)) (Err NoSuchElement)
 
 -- an answer about a side, where there is one
-abbrev pub about_side : (List Side → ℕ → ℕ) → State → ℕ → Result ℕ Refusal
+abbrev pub about_side : {X : Type 0} → (List Side → ℕ → X) → State → ℕ → Result X Refusal
 about_side f m s = cond (nat_lt s (length m.sides)) (Ok (f m.sides s)) (Err NoSuchElement)
+
+-- an answer about an arc, where there is one
+abbrev pub about_arc : {X : Type 0} → (List Side → ℕ → X) → State → ℕ → Result X Refusal
+about_arc f m a = cond (nat_lt a (arc_count m)) (Ok (f m.sides a)) (Err NoSuchElement)
+
+-- an answer about two sides, where there are both
+abbrev pub about_sides : {X : Type 0} → (List Side → ℕ → ℕ → X) → State → ℕ → ℕ → Result X Refusal
+about_sides f m s t = cond (nat_lt s (length m.sides) && nat_lt t (length m.sides)) (Ok (f m.sides s t)) (Err NoSuchElement)
+
+-- two sides stand in one ring
+abbrev pub in_one_ring : List Side → ℕ → ℕ → Bool
+in_one_ring us s t = meets (next_of us) (length us) s t
+
+-- the rows of the two sides of arc a
+abbrev pub both_rows : List Side → ℕ → Side × Side
+both_rows us a = (slice_index_or us (a + a) no_side, slice_index_or us (a + a + 1) no_side)
 
 -- the rows of the first and of the last vertex of arc a, where there is one
 abbrev pub arc_rows : State → ℕ → Result (ℕ × ℕ) Refusal

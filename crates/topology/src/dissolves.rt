@@ -1,4 +1,4 @@
-ghost use Rattle.std.specs.Prelude.{◌≡◌, ℕ, ◌+◌, ◌<◌, ◌≤◌, false, length, take, if◌then◌else◌, OnOk, nat_eq};
+ghost use Rattle.std.specs.Prelude.{◌≡◌, ℕ, ◌+◌, ◌<◌, ◌≤◌, false, length, take, OnOk};
 ghost use Rattle.topology.specs.States.{state_of};
 ghost use Rattle.topology.specs.Edited.{Edited, Done};
 ghost use Rattle.topology.specs.Questions.{arc_count, Rises};
@@ -7,11 +7,13 @@ ghost use Rattle.topology.specs.Dissolves.{share_ring, both_alone, alone_at, in_
 
 use super::map::Map;
 use super::merging::{Merging, merge};
+use super::renumbering::renamed;
 use super::side::Side;
 use super::table::Table;
 use refusal::Refusal;
 
 // The lowest side of another arc in the rings of an arc's sides.
+// Stays: the number of sides stands for no such side, as in the definition of the merging. To `unwrap` is no plainer: that such a side is left would be a condition here, of `merging_where` and of `set_free`.
 fn lowest_left(sides: &[Side], arc: usize) -> usize
     requires { arc + arc + 1 < length sides.now }
     ensures value { result ≡ first_from (in_either sides.now arc) 0 (length sides.now) }
@@ -26,14 +28,7 @@ fn lowest_left(sides: &[Side], arc: usize) -> usize
         .unwrap_or(sides.len())
 }
 
-// Where a ring leads on that led to a side of an arc: to what came after the other side, and where that one is alone, to what came after the side itself.
-fn onward(next: u32, across: u32, other: u32) -> u32
-    ensures { result ≡ (if nat_eq across other then next else across) }
-{
-    if across == other { next } else { across }
-}
-
-// How the two rings of an arc's sides become one.
+// How the two rings of an arc's sides become one: what led to one of the sides leads to what came after the other, and where that one is alone, to what came after the side itself.
 fn merging_where(sides: &[Side], arc: usize) -> Merging
     requires few { length sides.now ≤ 32768 }
     requires here { arc + arc + 1 < length sides.now }
@@ -44,8 +39,8 @@ fn merging_where(sides: &[Side], arc: usize) -> Merging
     let side = (arc + arc) as u32;
     Merging {
         side: side as u16,
-        past_unturned: onward(unturned.next, turned.next, side + 1),
-        past_turned: onward(turned.next, unturned.next, side),
+        past_unturned: renamed(side + 1, unturned.next, turned.next),
+        past_turned: renamed(side, turned.next, unturned.next),
         low_unturned: unturned.low,
         low_turned: turned.low,
         low: lowest_left(sides, arc) as u32,
@@ -118,13 +113,11 @@ impl<'a> Map<'a> {
         ensures sum { OnOk result (Rises 0 (state_of self.old) (state_of self.new)) }
         ensures rings { OnOk result (RingsMerged (state_of self.old) (state_of self.new) arc) }
     {
-        if arc >= self.arcs() {
-            return Err(Refusal::NoSuchElement);
-        }
-        if self.share_ring(arc + arc, arc + arc + 1) {
+        self.check_arc(arc)?;
+        if self.share_ring(arc + arc, arc + arc + 1)? {
             return Err(Refusal::SidesShareRing);
         }
-        if self.is_closed_alone(arc) {
+        if self.is_closed_alone(arc)? {
             return Err(Refusal::RingsAlone);
         }
         self.dissolve_arc(arc);

@@ -4,31 +4,28 @@ ghost use Rattle.topology.specs.MapLaw.{InRings, InTurns};
 ghost use Rattle.topology.specs.Divisions.{ring_low, told_at, ring_told, linked};
 ghost use Rattle.topology.specs.Tables.{Holds};
 
+use super::renumbering::renamed;
 use super::side::Side;
 use super::table::Table;
 use super::walks::before;
+use std::iter::successors;
 
 // The lowest side of the ring of a side.
-// Stays: the range bounds a walk along the links. A `loop` needs the sides left of the ring as its measure, and is no plainer.
 fn lowest_of_ring(sides: &[Side], start: u32) -> u32
     requires ringed { InRings sides.now (length sides.now) }
     requires here { start < length sides.now }
     ensures { result ≡ ring_low sides.now start }
 {
-    let mut low = start;
-    let mut at = start;
-    for _i in 0..sides.len() {
-        at = sides[at as usize].next;
-        if at == start {
-            return low;
-        }
-        low = low.min(at);
-    }
-    low
+    successors(Some(sides[start as usize].next), |at| {
+        sides.get(*at as usize).map(|side| side.next)
+    })
+    .take(sides.len())
+    .take_while(|at| *at != start)
+    .fold(start, |low, at| low.min(at))
 }
 
 // Tells each side of the ring of a side its polygon and the lowest side of the ring.
-// Stays: the range bounds a walk along the links, and each write is by the number of a side. A `loop` needs the sides left of the ring as its measure, and is no plainer.
+// Stays: each row that is written tells which is next, and an iterator over the links would hold the rows while they are written. So a range bounds the walk: a `loop` needs the sides left of the ring as its measure, and is no plainer.
 fn tell_ring(sides: &mut [Side], start: u32, polygon: u32, low: u32)
     requires ringed { InRings sides.old (length sides.old) }
     requires here { start < length sides.old }
@@ -51,6 +48,8 @@ fn tell_ring(sides: &mut [Side], start: u32, polygon: u32, low: u32)
 }
 
 // Stays: that the rings and turns of the rows are circles is a condition here, of `part` and of the walks. It is the law of a map, which a table alone does not keep, and a type for it would be owed at each write.
+// Stays: that there is such a side is a condition here, of the walks and of `divide_ring`, which come after the tests of an edit. A type of the numbers of sides would hold for one state of one table, and each push would make it anew.
+// Stays: that the number of sides is even and at most 32768 is a condition of the functions that add, join or remove an arc, put a side's number into fewer bits or find what comes before a side. A type of tables of sides is no plainer: between the two pushes of an arc the number is odd, and a push would owe that it leaves room below 32768.
 impl<'a> Table<'a, Side> {
     // Tells each side of the ring of a side its polygon and the lowest side of the ring.
     pub(crate) fn tell_ring(&mut self, start: u32, polygon: u32)
@@ -80,7 +79,7 @@ impl<'a> Table<'a, Side> {
         let q = before(sides, second);
         let near = self.rows[first as usize];
         let far = self.rows[second as usize];
-        let on = if first == second { n + 1 } else { first };
+        let on = renamed(second, n + 1, first);
         self.rows[q as usize].next = n + 1;
         self.rows[p as usize].next = n;
         self.push(Side {

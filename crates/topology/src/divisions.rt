@@ -3,7 +3,7 @@ ghost use Rattle.rings.specs.Circles.{meets};
 ghost use Rattle.topology.specs.Rows.{next_of, start_of};
 ghost use Rattle.topology.specs.States.{state_of};
 ghost use Rattle.topology.specs.Edited.{Edited, Done};
-ghost use Rattle.topology.specs.Questions.{Rises};
+ghost use Rattle.topology.specs.Questions.{about_side, about_sides, in_one_ring, Rises};
 ghost use Rattle.topology.specs.Islands.{arc_room, vertex_room};
 ghost use Rattle.topology.specs.Divisions.{unturned_polygon, turned_polygon, fit_run, leads, divide_outcome, RingDivided};
 
@@ -35,33 +35,28 @@ fn makes_an_arc(run: &[Vertex]) -> bool
 
 impl<'a> Map<'a> {
     // Whether two sides stand in one ring: by the law, exactly if their rings have one lowest side.
-    pub(crate) fn share_ring(&self, first: usize, second: usize) -> bool
-        requires first_in { first < self.now.sides.used }
-        requires second_in { second < self.now.sides.used }
-        ensures { result ≡ meets (next_of (state_of self.now).sides) (length (state_of self.now).sides) first second }
+    pub(crate) fn share_ring(&self, first: usize, second: usize) -> Result<bool, Refusal>
+        ensures { result ≡ about_sides in_one_ring (state_of self.now) first second }
     {
-        let sides = self.sides.in_use();
-        sides[first].low == sides[second].low
+        Ok(self.side(first)?.low == self.side(second)?.low)
     }
 
     // The vertex where a side begins.
-    fn start_of(&self, side: usize) -> Vertex
-        requires { side < self.now.sides.used }
-        ensures { result ≡ start_of (state_of self.now).sides (state_of self.now).vertices side }
+    fn start_of(&self, side: usize) -> Result<Vertex, Refusal>
+        ensures { result ≡ about_side (λ us s. start_of us (state_of self.now).vertices s) (state_of self.now) side }
     {
-        let row = self.sides.in_use()[side].row;
-        self.vertices.in_use()[row as usize]
+        let row = self.side(side)?.row;
+        Ok(self.vertices.in_use()[row as usize])
     }
 
     // Whether a run leads from the start of one side to that of another.
-    fn is_led(&self, first: usize, second: usize, run: &[Vertex]) -> bool
-        requires first_in { first < self.now.sides.used }
-        requires second_in { second < self.now.sides.used }
+    fn is_led(&self, first: usize, second: usize, run: &[Vertex]) -> Result<bool, Refusal>
         requires fit { fit_run run.now ≡ true }
-        ensures { result ≡ leads (state_of self.now) first second run.now }
+        ensures { result ≡ about_sides (λ us s t. leads (state_of self.now) s t run.now) (state_of self.now) first second }
     {
-        run[0].shares_place(self.start_of(first))
-            && run[run.len() - 1].shares_place(self.start_of(second))
+        let start = self.start_of(first)?;
+        let end = self.start_of(second)?;
+        Ok(run[0].shares_place(start) && run[run.len() - 1].shares_place(end))
     }
 
     // Divides the ring of two sides by an arc that leads from the start of one to that of the other.
@@ -101,16 +96,13 @@ impl<'a> Map<'a> {
         ensures rings { OnOk result (RingDivided (state_of self.old) (state_of self.new) first) }
         ensures sum { OnOk result (Rises 0 (state_of self.old) (state_of self.new)) }
     {
-        if first >= self.sides.used || second >= self.sides.used {
-            return Err(Refusal::NoSuchElement);
-        }
-        if !self.share_ring(first, second) {
+        if !self.share_ring(first, second)? {
             return Err(Refusal::SidesInTwoRings);
         }
         if !makes_an_arc(run) {
             return Err(Refusal::UnfitRun);
         }
-        if !self.is_led(first, second, run) {
+        if !self.is_led(first, second, run)? {
             return Err(Refusal::RunEndsElsewhere);
         }
         if !self.has_room(run.len()) {

@@ -24,9 +24,7 @@ impl<'a> Map<'a> {
         ensures { result ≡ (arc_room (state_of self.now) && vertex_room (state_of self.now) vertices) }
     {
         let used = self.sides.used;
-        used + 2 <= self.sides.rows.len()
-            && used + 2 <= 32768
-            && self.has_vertex_room(vertices)
+        used + 2 <= self.sides.rows.len() && used + 2 <= 32768 && self.has_vertex_room(vertices)
     }
 
     // Adds an island of a run that makes a closed arc.

@@ -1,5 +1,6 @@
-ghost use Rattle.std.specs.Prelude.{◌≡◌, ℕ, ◌+◌, ◌-◌, ◌/◌, ◌%◌, ◌<◌, ◌≤◌, Some, None, ◌++◌, length, take, nat_eq, slice_range, if◌then◌else◌, true, OnOk};
+ghost use Rattle.std.specs.Prelude.{◌≡◌, ℕ, ◌+◌, ◌-◌, ◌/◌, ◌%◌, ◌<◌, ◌≤◌, Ok, Err, ◌++◌, length, take, nat_eq, slice_range, if◌then◌else◌, true, OnOk};
 ghost use Rattle.std.specs.List.{position};
+ghost use Rattle.refusal.specs.declared.Refusal.TheVariants.{NotTwoEndsOfTwoArcs};
 ghost use Rattle.rings.specs.Law.{opp};
 ghost use Rattle.topology.specs.Rows.{next_of, node_of, row_of};
 ghost use Rattle.topology.specs.MapLaw.{InRings, InTurns};
@@ -127,15 +128,17 @@ impl<'a> Table<'a, Vertex> {
 }
 
 impl<'a> Map<'a> {
-    // The two sides that begin at a node, the lower one first, where just two do, of two arcs.
-    fn two_ends(&self, node: usize) -> Option<(usize, usize)>
-        ensures { result ≡ (if of_two_arcs (ends (state_of self.now).sides node) then Some (lower_end (state_of self.now) node, higher_end (state_of self.now) node) else None) }
+    // The two sides that begin at a node, the lower one first. 26 unless just two do, of two arcs.
+    fn two_ends(&self, node: usize) -> Result<(usize, usize), Refusal>
+        ensures { result ≡ (if of_two_arcs (ends (state_of self.now).sides node) then Ok (lower_end (state_of self.now) node, higher_end (state_of self.now) node) else Err NotTwoEndsOfTwoArcs) }
     {
         let sides = self.sides.in_use();
-        let stays = first_end(sides, node)?;
+        let stays = first_end(sides, node).ok_or(Refusal::NotTwoEndsOfTwoArcs)?;
         let goes = sides[opposite(stays as u32) as usize].next as usize;
         let back = sides[opposite(goes as u32) as usize].next as usize;
-        (goes / 2 != stays / 2 && back == stays).then_some((stays, goes))
+        (goes / 2 != stays / 2 && back == stays)
+            .then_some((stays, goes))
+            .ok_or(Refusal::NotTwoEndsOfTwoArcs)
     }
 
     // The rows of the vertices of an arc, and those of another arc beyond the node where it begins or ends.
@@ -153,8 +156,15 @@ impl<'a> Map<'a> {
         let b = goes / 2;
         let from = sides[b + b].row as usize;
         let to = sides[b + b + 1].row as usize;
-        let rest = if goes % 2 == 0 { from + 1..to + 1 } else { from..to };
-        (sides[a + a].row as usize..sides[a + a + 1].row as usize + 1, rest)
+        let rest = if goes % 2 == 0 {
+            from + 1..to + 1
+        } else {
+            from..to
+        };
+        (
+            sides[a + a].row as usize..sides[a + a + 1].row as usize + 1,
+            rest,
+        )
     }
 
     // How many vertices the arcs of two ends at a node have once they are one.
@@ -182,10 +192,12 @@ impl<'a> Map<'a> {
         let last = first + (whole.end - whole.start) + (rest.end - rest.start) - 1;
         let last_unturned = self.sides.rows[self.sides.used - 2];
         let last_turned = self.sides.rows[self.sides.used - 1];
-        self.sides.go_on(stays as u32, goes as u32, first as u32, last as u32);
+        self.sides
+            .go_on(stays as u32, goes as u32, first as u32, last as u32);
         self.polygons = self.sides.take_out(goes / 2, self.nodes, self.polygons);
         self.sides.put_back(last_unturned, last_turned);
-        self.vertices.push_joined(whole, rest, stays % 2 == 1, stays % 2 == goes % 2);
+        self.vertices
+            .push_joined(whole, rest, stays % 2 == 1, stays % 2 == goes % 2);
         self.nodes -= 1;
     }
 
@@ -199,9 +211,7 @@ impl<'a> Map<'a> {
         if node >= self.nodes {
             return Err(Refusal::NoSuchElement);
         }
-        let Some((stays, goes)) = self.two_ends(node) else {
-            return Err(Refusal::NotTwoEndsOfTwoArcs);
-        };
+        let (stays, goes) = self.two_ends(node)?;
         if !self.has_vertex_room(self.joined_count(stays, goes)) {
             return Err(Refusal::NoRoom);
         }

@@ -1,7 +1,7 @@
 ghost use Rattle.std.specs.Prelude.{◌≡◌, ℕ, ◌+◌, ◌-◌, ◌/◌, ◌%◌, ◌<◌, ◌≤◌, true, ◌&&◌, map, length, take, if◌then◌else◌, OnOk, nat_eq};
 ghost use Rattle.topology.specs.States.{state_of};
 ghost use Rattle.topology.specs.Edited.{Edited, Done};
-ghost use Rattle.topology.specs.Questions.{arc_count, rings_of, Rises};
+ghost use Rattle.topology.specs.Questions.{about_arc, arc_count, rings_of, Rises};
 ghost use Rattle.topology.specs.Tables.{Holds};
 ghost use Rattle.topology.specs.Renumbered.{renumbered};
 ghost use Rattle.topology.specs.Lifts.{closed_alone, other_under, ring_left, lift_numbers, rows_without, lifted_sides, polygons_left, lift_outcome};
@@ -22,6 +22,7 @@ fn has_other_under(sides: &[Side], arc: usize, p: u32, q: u32) -> bool
 }
 
 // The numbers that change where an arc goes.
+// Stays: no polygon goes where `polygon`, `into` and `last_polygon` are one number. An `Option` of the three is no plainer: each row would be told in two cases, where now a number renamed to itself is the second.
 fn numbers_where(sides: &[Side], nodes: usize, polygons: usize, arc: usize) -> Renumbering
     requires few { length sides.now ≤ 32768 }
     requires here { arc + arc + 1 < length sides.now }
@@ -94,29 +95,27 @@ impl<'a> Table<'a, Side> {
 
 impl<'a> Map<'a> {
     // Whether an arc is closed at a node of its own: by the law, exactly if each of its sides is its own next.
-    // Stays: that there is such an arc is a condition here and in the other private functions on arcs. A type of the numbers of arcs would hold for one state of one map, and each edit would make it anew.
-    pub(crate) fn is_closed_alone(&self, arc: usize) -> bool
-        requires { arc < arc_count (state_of self.now) }
-        ensures closed { result ≡ closed_alone (state_of self.now).sides arc }
-        ensures alone { result ≡ both_alone (state_of self.now).sides arc }
+    pub(crate) fn is_closed_alone(&self, arc: usize) -> Result<bool, Refusal>
+        ensures closed { result ≡ about_arc closed_alone (state_of self.now) arc }
+        ensures alone { result ≡ about_arc both_alone (state_of self.now) arc }
     {
-        let sides = self.sides.in_use();
+        let (unturned, turned) = self.arc_sides(arc)?;
         let s = arc + arc;
-        sides[s].next as usize == s && sides[s + 1].next as usize == s + 1
+        Ok(unturned.next as usize == s && turned.next as usize == s + 1)
     }
 
     // Whether the polygon that is left once an arc goes is 0 or has a ring.
-    fn leaves_a_ring(&self, arc: usize) -> bool
-        requires { arc < arc_count (state_of self.now) }
-        ensures { result ≡ ring_left (state_of self.now).sides arc }
+    fn leaves_a_ring(&self, arc: usize) -> Result<bool, Refusal>
+        ensures { result ≡ about_arc ring_left (state_of self.now) arc }
     {
-        let sides = self.sides.in_use();
-        let p = sides[arc + arc].polygon;
-        let q = sides[arc + arc + 1].polygon;
-        p.min(q) == 0 || has_other_under(sides, arc, p, q)
+        let (unturned, turned) = self.arc_sides(arc)?;
+        let p = unturned.polygon;
+        let q = turned.polygon;
+        Ok(p.min(q) == 0 || has_other_under(self.sides.in_use(), arc, p, q))
     }
 
     // Takes a closed arc away that stands alone and leaves a ring.
+    // Stays: that there is such an arc is a condition of this last step of an edit, of `split_arc`, of `dissolve_arc` and of the functions on rows that these call. A type of the numbers of arcs would hold for one state of one map, and each edit would make it anew.
     fn lift_arc(&mut self, arc: usize)
         requires here { arc < arc_count (state_of self.old) }
         requires alone { closed_alone (state_of self.old).sides arc ≡ true }
@@ -135,13 +134,10 @@ impl<'a> Map<'a> {
         ensures edited { Edited (λ m. lift_outcome m arc) self.old self.new result }
         ensures sum { OnOk result (Rises 2 (state_of self.new) (state_of self.old)) }
     {
-        if arc >= self.arcs() {
-            return Err(Refusal::NoSuchElement);
-        }
-        if !self.is_closed_alone(arc) {
+        if !self.is_closed_alone(arc)? {
             return Err(Refusal::ArcNotClosedAlone);
         }
-        if !self.leaves_a_ring(arc) {
+        if !self.leaves_a_ring(arc)? {
             return Err(Refusal::PolygonLosesLastRing);
         }
         self.lift_arc(arc);

@@ -1,7 +1,7 @@
 ghost use Rattle.std.specs.Prelude.{◌≡◌, ℕ, ◌+◌, ◌-◌, ◌/◌, ◌<◌, ◌≤◌, length, IfOk, OnOk};
 ghost use Rattle.topology.specs.Rows.{next_of, node_of, polygon_of, low_of};
 ghost use Rattle.topology.specs.States.{state_of};
-ghost use Rattle.topology.specs.Questions.{arc_count, side_row, about_side, arc_rows, vertex_count, vertex_at, rings_of, ring_at, TurnMeets, RingsListed, HoweverParted, LowestOfRing};
+ghost use Rattle.topology.specs.Questions.{arc_count, known_arc, side_row, about_side, about_arc, both_rows, arc_rows, vertex_count, vertex_at, rings_of, ring_at, TurnMeets, RingsListed, HoweverParted, LowestOfRing};
 
 use super::hand::Hand;
 use super::map::Map;
@@ -80,18 +80,33 @@ impl<'a> Map<'a> {
         self.side(side).map(|row| row.node as usize)
     }
 
+    // 20 when there is no such arc.
+    pub(crate) fn check_arc(&self, arc: usize) -> Result<(), Refusal>
+        ensures { result ≡ known_arc (state_of self.now) arc }
+    {
+        if arc < self.arcs() {
+            Ok(())
+        } else {
+            Err(Refusal::NoSuchElement)
+        }
+    }
+
+    // The rows of the two sides of an arc, where there is such an arc.
+    pub(crate) fn arc_sides(&self, arc: usize) -> Result<(Side, Side), Refusal>
+        ensures { result ≡ about_arc both_rows (state_of self.now) arc }
+    {
+        self.check_arc(arc)?;
+        let sides = self.sides.in_use();
+        Ok((sides[arc + arc], sides[arc + arc + 1]))
+    }
+
     // The rows of an arc's first and last vertex, where there is such an arc.
-    fn run(&self, arc: usize) -> Result<(usize, usize), Refusal>
+    pub(crate) fn run(&self, arc: usize) -> Result<(usize, usize), Refusal>
         ensures value { result ≡ arc_rows (state_of self.now) arc }
         ensures stands { IfOk result (λ p. (p.0 < p.1) × (p.1 < length (state_of self.now).vertices)) }
     {
-        if arc >= self.arcs() {
-            return Err(Refusal::NoSuchElement);
-        }
-        let sides = self.sides.in_use();
-        let first = sides[arc + arc].row;
-        let last = sides[arc + arc + 1].row;
-        Ok((first as usize, last as usize))
+        let (unturned, turned) = self.arc_sides(arc)?;
+        Ok((unturned.row as usize, turned.row as usize))
     }
 
     /// How many vertices an arc has. 20 when there is no such arc.

@@ -23,11 +23,11 @@ pub struct Renumbering {
     pub low_turned: u32,
 }
 
-// The number that a thing has once the highest number has filled the gap.
-fn fill(gap: u32, highest: u32, k: u32) -> u32
-    ensures { result ≡ fill gap highest k }
+// A number, where one number is put for another.
+pub(crate) fn renamed(from: u32, to: u32, k: u32) -> u32
+    ensures { result ≡ fill to from k }
 {
-    if k == highest { gap } else { k }
+    if k == from { to } else { k }
 }
 
 impl Renumbering {
@@ -45,13 +45,13 @@ impl Renumbering {
             side.low
         };
         Side {
-            node: fill(self.node, self.last_node, side.node),
-            polygon: fill(
-                self.polygon,
+            node: renamed(self.last_node, self.node, side.node),
+            polygon: renamed(
                 self.last_polygon,
-                fill(self.into, self.polygon, side.polygon),
+                self.polygon,
+                renamed(self.polygon, self.into, side.polygon),
             ),
-            next: fill(unturned, last, fill(unturned + 1, last + 1, side.next)),
+            next: renamed(last, unturned, renamed(last + 1, unturned + 1, side.next)),
             low,
             ..side
         }

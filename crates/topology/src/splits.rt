@@ -3,7 +3,7 @@ ghost use Rattle.topology.specs.MapLaw.{InRings, InTurns};
 ghost use Rattle.topology.specs.States.{state_of};
 ghost use Rattle.topology.specs.Edited.{Edited, Done};
 ghost use Rattle.topology.specs.Tables.{Holds};
-ghost use Rattle.topology.specs.Questions.{arc_count, rings_of, Rises};
+ghost use Rattle.topology.specs.Questions.{about_arc, arc_count, rings_of, Rises};
 ghost use Rattle.topology.specs.Islands.{arc_room, vertex_room};
 ghost use Rattle.topology.specs.Splits.{inside, leading, beginning, split_sides, split_outcome, Parts};
 
@@ -52,14 +52,10 @@ impl<'a> Table<'a, Side> {
 
 impl<'a> Map<'a> {
     // Whether a vertex of an arc is neither its first nor its last.
-    fn is_inside(&self, arc: usize, k: usize) -> bool
-        requires { arc < arc_count (state_of self.now) }
-        ensures { result ≡ inside (state_of self.now).sides arc k }
+    fn is_inside(&self, arc: usize, k: usize) -> Result<bool, Refusal>
+        ensures { result ≡ about_arc (λ us a. inside us a k) (state_of self.now) arc }
     {
-        let sides = self.sides.in_use();
-        let first = sides[arc + arc].row as usize;
-        let last = sides[arc + arc + 1].row as usize;
-        0 < k && k < last - first
+        self.run(arc).map(|(first, last)| 0 < k && k < last - first)
     }
 
     // Parts an arc at a vertex inside it.
@@ -86,10 +82,7 @@ impl<'a> Map<'a> {
         ensures sum { OnOk result (Rises 0 (state_of self.old) (state_of self.new)) }
         ensures parts { OnOk result (Parts (state_of self.old) (state_of self.new) arc k) }
     {
-        if arc >= self.arcs() {
-            return Err(Refusal::NoSuchElement);
-        }
-        if !self.is_inside(arc, k) {
+        if !self.is_inside(arc, k)? {
             return Err(Refusal::NotInsideArc);
         }
         if !self.has_room(1) {

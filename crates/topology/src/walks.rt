@@ -6,6 +6,7 @@ ghost use Rattle.topology.specs.MapLaw.{InTurns};
 
 use super::side::Side;
 use rings::opposite;
+use std::iter::successors;
 
 // How many sides are the lowest of their ring.
 pub(crate) fn count_starts(sides: &[Side]) -> usize
@@ -19,6 +20,7 @@ pub(crate) fn count_starts(sides: &[Side]) -> usize
 }
 
 // The polygon and the lowest side of the k-th ring, where there are so many.
+// Stays: the chain begins as that of `count_starts`. No function can give its first part back, since its type names a closure, and one that takes what is done with it is longer than the three lines.
 pub(crate) fn find_ring(sides: &[Side], k: usize) -> Option<(usize, usize)>
     ensures { result ≡ option_map (λ s. (polygon_of sides.now s, s)) (slice_get (kept (tells sides.now) (length sides.now)) k) }
 {
@@ -31,7 +33,7 @@ pub(crate) fn find_ring(sides: &[Side], k: usize) -> Option<(usize, usize)>
 }
 
 // The side that comes before a side in its ring, found by turning about the node where the side begins.
-// Stays: the range bounds a walk along the links. A `loop` needs the sides left of the turn as its measure, and is no plainer.
+// Stays: the chain is that of `lowest_of_ring` along other links. One function for both, with a closure that leads on and one that folds, was tried and is no plainer: its contract tells what both closures answer, in a definition longer than the chain, and three of its goals ask when they may be called.
 pub(crate) fn before(sides: &[Side], side: u32) -> u32
     requires turned { InTurns sides.now (length sides.now) }
     requires even { length sides.now % 2 ≡ 0 }
@@ -39,14 +41,12 @@ pub(crate) fn before(sides: &[Side], side: u32) -> u32
     ensures low { result < length sides.now }
     ensures leads { next_of sides.now result ≡ side }
 {
-    let mut at = side;
-    for _i in 0..sides.len() {
-        let p = opposite(at);
-        let q = sides[p as usize].next;
-        if q == side {
-            return p;
-        }
-        at = q;
-    }
-    unreachable!()
+    let first = sides[opposite(side) as usize].next;
+    let last = successors(Some(first), |at| {
+        sides.get(opposite(*at) as usize).map(|side| side.next)
+    })
+    .take(sides.len())
+    .take_while(|at| *at != side)
+    .fold(side, |_, at| at);
+    opposite(last)
 }

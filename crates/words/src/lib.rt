@@ -6,6 +6,8 @@ ghost use Rattle.std.specs.Float.{binary64};
 ghost use Rattle.std.specs.Float.Parse.{parse_float, is_float_text};
 ghost use Rattle.words.specs.Words.{whole_of, character_of, Parsed, Decimal};
 
+// Stays: `whole`, `character` and `decimal` are one line each and differ in the type that is read. A function over the type would be that line again, with each type's meaning as a ghost member of a trait, and is no plainer.
+
 /// The whole number that a word writes in decimal digits, where 64 bits hold it. A plus may stand first.
 pub fn whole(word: &str) -> Option<u64>
     ensures { result ≡ whole_of word.now }
@@ -27,7 +29,7 @@ pub fn character(word: &str) -> Option<char>
     word.parse::<char>().ok()
 }
 
-/// The double that a word writes: what Rust's `parse` reads, which is the number rounded once, and so of a plain decimal number the nearest double.
+/// The double that a word writes: what Rust's `parse` reads. A number is rounded once, so a plain decimal number gives the nearest double; `inf` and `nan` give what they name.
 pub fn decimal(word: &str) -> Option<f64>
     ensures rounded { result ≡ parse_float binary64 word.now }
     ensures said { Decimal word.now result }

@@ -1,5 +1,4 @@
-use Rattle.std.proofs.Common.{◌≡◌, ℕ, ◌+◌, ◌<◌, cond, eqb, take, sym, ap, ◌∙◌, arith}
-use Rattle.std.proofs.lemmas.Bool.{eq-eqb, ne_eqb, cond-true, cond-false}
+use Rattle.std.proofs.Common.{◌≡◌, ℕ, ◌<◌, take, sym, ap, ◌∙◌, arith}
 use Rattle.rings.specs.Circles.{rings}
 use Rattle.rings.proofs.Ringed.{ringed_circles}
 use Rattle.rings.proofs.Closed.{one_image}
@@ -7,7 +6,6 @@ use Rattle.topology.specs.Rows.{next_of}
 use Rattle.topology.proofs.Growth.{grown_twice, grown_used}
 use Rattle.topology.proofs.Linking.{linked_rows, linked_drop, linked_size}
 use Rattle.topology.proofs.dividing.«Table+Side».link.Goals as goal
-use Rattle.topology.proofs.dividing.«Table+Side».link.Goals.{then-first-second, else-first-second}
 
 pub returns : goal.returns
 returns c =
@@ -17,11 +15,7 @@ returns c =
     let us = take n full in
     let first = c.args.first in
     let second = c.args.second in
-    let on : c.if-first-second.on ≡ cond (eqb first second) (n + 1) first =
-    elim c.if-first-second.branch [
-      | then-first-second w ↦ w.on-is ∙ sym (cond-true (eqb first second) (n + 1) first (eq-eqb first second w.if-first-second.true))
-      | else-first-second w ↦ w.on-is ∙ sym (cond-false (eqb first second) (n + 1) first (ne_eqb first second w.if-first-second.false))
-    ] in
+    let on = c.renamed-on.ensures in
     let p = c.before-p in
     let q = c.before-q in
     let s = c.in_use-sides.ensures.rows in
@@ -35,8 +29,8 @@ returns c =
     let g = grown_twice _ c.push.new.self c.push-2.new.self _ _ c.push.ensures c.push-2.ensures in
     let w = c.push-2.new.self in
     record {
-      rows = g.rows ∙ linked_rows full n p.result q.result first second c.args.row c.args.last c.if-first-second.on fit c.requires.first_in c.requires.second_in lp lq fp fq one on;
-      rest = g.rest ∙ linked_drop full n p.result q.result first second c.args.row c.args.last c.if-first-second.on fit c.requires.first_in c.requires.second_in lp lq fp fq one on w.used (omega (arith, grown_used _ w _ g));
-      long = g.long ∙ linked_size full n p.result q.result first second c.args.row c.args.last c.if-first-second.on fit c.requires.first_in c.requires.second_in lp lq fp fq one on;
+      rows = g.rows ∙ linked_rows full n p.result q.result first second c.args.row c.args.last c.renamed-on.result fit c.requires.first_in c.requires.second_in lp lq fp fq one on;
+      rest = g.rest ∙ linked_drop full n p.result q.result first second c.args.row c.args.last c.renamed-on.result fit c.requires.first_in c.requires.second_in lp lq fp fq one on w.used (omega (arith, grown_used _ w _ g));
+      long = g.long ∙ linked_size full n p.result q.result first second c.args.row c.args.last c.renamed-on.result fit c.requires.first_in c.requires.second_in lp lq fp fq one on;
       lent = g.lent;
     }

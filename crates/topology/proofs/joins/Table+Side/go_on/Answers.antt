@@ -1,4 +1,4 @@
-use Rattle.std.proofs.Common.{◌≡◌, ◌<◌, length, ap, sym, ◌∙◌, refl, arith, take}
+use Rattle.std.proofs.Common.{◌≡◌, ◌<◌, ap, sym, ◌∙◌, refl, arith, take}
 use Rattle.std.proofs.lemmas.List.{length-take-le}
 use Rattle.topology.specs.Rows.{next_of}
 use Rattle.topology.proofs.Growth.{front_new, front_rest, front_long}

@@ -1,4 +1,4 @@
-use Rattle.std.proofs.Common.{true, false, arith}
+use Rattle.std.proofs.Common.{false, arith}
 use Rattle.topology.proofs.PushedAgain.{both_grown, once_used}
 use Rattle.topology.proofs.joins.«Table+Vertex».push_joined.Goals as goal
 

@@ -1,9 +1,8 @@
-use Rattle.std.proofs.Common.{◌≡◌, ◌+◌, ◌-◌, ◌<◌, length, refl, sym, ap, ◌∙◌, subst, Ok, arith}
+use Rattle.std.proofs.Common.{◌≡◌, ◌+◌, ◌-◌, length, refl, sym, ap, ◌∙◌, subst, Ok, arith}
 use Rattle.topology.specs.States.{State, state_of}
 use Rattle.topology.specs.Questions.{Rises}
 use Rattle.topology.specs.Joins.{Joined, joined_run}
 use Rattle.topology.proofs.Assembling.{lawful_of, vertices_told}
-use Rattle.topology.proofs.Growth.{held_used}
 use Rattle.topology.proofs.TakenOut.{taken_used}
 use Rattle.topology.proofs.JoinStates.{two_told, lt, ls, run_many, leads_t, leads_s, count_told, pushed_is, join_means, join_sum, join_outcome_is}
 use Rattle.topology.proofs.JoinDone.{sides_long, used_now, vertices_long, went_used, join_few, join_law, state_done, rest_kept, lent_kept}
