@@ -16,7 +16,7 @@ use Rattle.topology.specs.Rows.{no_side, next_of, node_of, polygon_of, row_of, l
 use Rattle.topology.specs.Splits.{leading}
 use Rattle.topology.specs.Joins.{joined_at, joined_sides}
 
-side_is : (r q : Side) → r.node ≡ q.node → r.row ≡ q.row → r.polygon ≡ q.polygon → r.next ≡ q.next → r.low ≡ q.low → r ≡ q
+pub side_is : (r q : Side) → r.node ≡ q.node → r.row ≡ q.row → r.polygon ≡ q.polygon → r.next ≡ q.next → r.low ≡ q.low → r ≡ q
 side_is r q a b c d e =
     ap (λ (x : ℕ). record { node = x; row = r.row; polygon = r.polygon; next = r.next; low = r.low }) a
     ∙ (ap (λ (x : ℕ). record { node = q.node; row = x; polygon = r.polygon; next = r.next; low = r.low }) b

@@ -70,10 +70,10 @@ module _ (us : List Side) (vs : List Vertex) (n : ℕ) (even : n % 2 ≡ 0) (sta
       ap good (run_at a i (omega arith)) ∙ h (row a + i) (omega (arith, r.0, r.1, k, e))
 
   along_unturned : (s : ℕ) → s % 2 ≡ 0 → along us vs s ≡ run_of us vs (s / 2)
-  along_unturned s e = cond-true (eqb (s % 2) 0) (run_of us vs (s / 2)) (reverse (run_of us vs (s / 2))) (eq-eqb (s % 2) 0 e)
+  along_unturned s e = cond-false (eqb (s % 2) 1) (reverse (run_of us vs (s / 2))) (run_of us vs (s / 2)) (ne_eqb (s % 2) 1 (λ i. omega (arith, i, e)))
 
   along_turned : (s : ℕ) → (s % 2 ≡ 0 → ⊥) → along us vs s ≡ reverse (run_of us vs (s / 2))
-  along_turned s ne = cond-false (eqb (s % 2) 0) (run_of us vs (s / 2)) (reverse (run_of us vs (s / 2))) (ne_eqb (s % 2) 0 ne)
+  along_turned s ne = cond-true (eqb (s % 2) 1) (reverse (run_of us vs (s / 2))) (run_of us vs (s / 2)) (eq-eqb (s % 2) 1 (omega (arith, ne)))
 
   module _ (s : ℕ) (l : s < n) where
     abbrev a : ℕ

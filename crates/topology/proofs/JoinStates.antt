@@ -178,8 +178,13 @@ module _ (m : State) (law : Stands m) (s t : ℕ) (w : TwoEnds m.sides s t) wher
   fewer = join_rings us vs m.nodes m.polygons z s t first last two_more L w run refl last_fits run_many
 
   -- what the join means
-  pub join_means : Joined m (joined m s t) s t
-  join_means = record {
+  pub join_means : 0 < m.nodes → Joined m (joined m s t) s t
+  join_means some = record {
+    hand = refl;
+    arc_gone = omega (arith, two_more, long₂);
+    node_gone = omega (arith, some);
+    as_many_polygons = stay;
+    as_many_rings = omega (arith, ap (λ (j : ℕ). length (rings (next_of us₂) j)) long₂, ap (λ (j : ℕ). length (rings (next_of us) j)) two_more, fewer);
     rings = λ k l.
         ap (λ (j : ℕ). ring (next_of us₂) j k) long₂
         ∙ (rings₂ us vs m.nodes m.polygons z s t first last two_more L w run refl last_fits run_many k (omega (arith, l, long₂))

@@ -37,3 +37,5 @@ pub mod GoesOn
 pub mod JoinEnds
 pub mod JoinStates
 pub mod JoinDone
+pub mod Renumbers
+pub mod MergesBeside

@@ -1,6 +1,7 @@
 -- The sides of a ring told their polygon and lowest side, field by field.
-use Rattle.std.proofs.Common.{◌≡◌, ℕ, ◌<◌, ◌≤◌, Bool, true, false, cond, eqb, List, [], ◌∷◌, length, get_or, sym, refl, ap, ◌∙◌, inl, inr, arith, min}
+use Rattle.std.proofs.Common.{◌≡◌, ℕ, ◌<◌, ◌≤◌, Bool, true, false, cond, eqb, List, [], ◌∷◌, map, length, get_or, sym, refl, ap, ◌∙◌, inl, inr, arith, min}
 use mathlib.Core.Path.{fun_ext}
+use Rattle.std.specs.List.{range_with_len}
 use Rattle.std.proofs.lemmas.Bool.{cases_eq, cases_lt, cond_both}
 use Rattle.std.proofs.lemmas.List.{get_or_past}
 use Rattle.std.proofs.lemmas.List.FromFn.{length-map-range_with_len, get_or-map-range_with_len}
@@ -15,36 +16,53 @@ either_way : (F : Side → ℕ) (b : Bool) (r s : Side) → F (cond b r s) ≡ c
 either_way F true r s = refl
 either_way F false r s = refl
 
-module _ (us : List Side) (s polygon : ℕ) where
-  pub told_long : length (ring_told us s polygon) ≡ length us
-  told_long = length-map-range_with_len (told_at us s polygon (ring_low us s)) 0 (length us)
+module _ (us : List Side) (s polygon low : ℕ) where
+  abbrev rows : List Side
+  rows = map (told_at us s polygon low) (range_with_len 0 (length us))
 
-  pub told_row : (k : ℕ) → k < length us → get_or (ring_told us s polygon) k no_side ≡ told_at us s polygon (ring_low us s) k
-  told_row k l = get_or-map-range_with_len (told_at us s polygon (ring_low us s)) 0 (length us) k k no_side l (omega arith)
+  pub rows_long : length rows ≡ length us
+  rows_long = length-map-range_with_len (told_at us s polygon low) 0 (length us)
 
-  pub told_polygon : (k : ℕ) → k < length us → polygon_of (ring_told us s polygon) k ≡ cond (meets (next_of us) (length us) s k) polygon (polygon_of us k)
-  told_polygon k l =
-      ap (λ (r : Side). r.polygon) (told_row k l)
-      ∙ either_way (λ r. r.polygon) (meets (next_of us) (length us) s k) (told_side polygon (ring_low us s) (get_or us k no_side)) (get_or us k no_side)
+  pub row_told : (k : ℕ) → k < length us → get_or rows k no_side ≡ told_at us s polygon low k
+  row_told k l = get_or-map-range_with_len (told_at us s polygon low) 0 (length us) k k no_side l (omega arith)
 
-  pub told_low : (k : ℕ) → k < length us → low_of (ring_told us s polygon) k ≡ cond (meets (next_of us) (length us) s k) (ring_low us s) (low_of us k)
-  told_low k l =
-      ap (λ (r : Side). r.low) (told_row k l)
-      ∙ either_way (λ r. r.low) (meets (next_of us) (length us) s k) (told_side polygon (ring_low us s) (get_or us k no_side)) (get_or us k no_side)
+  pub polygon_told : (k : ℕ) → k < length us → polygon_of rows k ≡ cond (meets (next_of us) (length us) s k) polygon (polygon_of us k)
+  polygon_told k l =
+      ap (λ (r : Side). r.polygon) (row_told k l)
+      ∙ either_way (λ r. r.polygon) (meets (next_of us) (length us) s k) (told_side polygon low (get_or us k no_side)) (get_or us k no_side)
+
+  pub low_told : (k : ℕ) → k < length us → low_of rows k ≡ cond (meets (next_of us) (length us) s k) low (low_of us k)
+  low_told k l =
+      ap (λ (r : Side). r.low) (row_told k l)
+      ∙ either_way (λ r. r.low) (meets (next_of us) (length us) s k) (told_side polygon low (get_or us k no_side)) (get_or us k no_side)
 
   -- all else stays
-  pub told_else : (F : Side → ℕ) → ((r : Side) → F (told_side polygon (ring_low us s) r) ≡ F r) → field F (ring_told us s polygon) ≡ field F us
-  told_else F same =
+  pub else_told : (F : Side → ℕ) → ((r : Side) → F (told_side polygon low r) ≡ F r) → field F rows ≡ field F us
+  else_told F same =
       fun_ext
       (λ k.
       elim (cases_lt k (length us)) [
         | inl l ↦
             let r = get_or us k no_side in
             let b = meets (next_of us) (length us) s k in
-            ap F (told_row k l)
-            ∙ (either_way F b (told_side polygon (ring_low us s) r) r ∙ (ap (λ (v : ℕ). cond b v (F r)) (same r) ∙ cond_both b _ _ (λ (v : ℕ). v ≡ F r) (λ _. refl) (λ _. refl)))
-        | inr g ↦ ap F (get_or_past (ring_told us s polygon) k no_side (omega (arith, told_long)) ∙ sym (get_or_past us k no_side g))
+            ap F (row_told k l)
+            ∙ (either_way F b (told_side polygon low r) r ∙ (ap (λ (v : ℕ). cond b v (F r)) (same r) ∙ cond_both b _ _ (λ (v : ℕ). v ≡ F r) (λ _. refl) (λ _. refl)))
+        | inr g ↦ ap F (get_or_past rows k no_side (omega (arith, rows_long)) ∙ sym (get_or_past us k no_side g))
       ])
+
+-- the same with the lowest side of the ring
+module _ (us : List Side) (s polygon : ℕ) where
+  pub told_long : length (ring_told us s polygon) ≡ length us
+  told_long = rows_long us s polygon (ring_low us s)
+
+  pub told_polygon : (k : ℕ) → k < length us → polygon_of (ring_told us s polygon) k ≡ cond (meets (next_of us) (length us) s k) polygon (polygon_of us k)
+  told_polygon = polygon_told us s polygon (ring_low us s)
+
+  pub told_low : (k : ℕ) → k < length us → low_of (ring_told us s polygon) k ≡ cond (meets (next_of us) (length us) s k) (ring_low us s) (low_of us k)
+  told_low = low_told us s polygon (ring_low us s)
+
+  pub told_else : (F : Side → ℕ) → ((r : Side) → F (told_side polygon (ring_low us s) r) ≡ F r) → field F (ring_told us s polygon) ≡ field F us
+  told_else = else_told us s polygon (ring_low us s)
 
 -- the lowest of a number and those of a list is at most each, and one of them
 pub lowest_first : (x : ℕ) (ys : List ℕ) → lowest_of x ys ≤ x

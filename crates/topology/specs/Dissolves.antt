@@ -1,8 +1,8 @@
 -- Dissolve: an arc goes, and the two rings of its sides become one.
-use Rattle.std.specs.Prelude.{◌≡◌, ℕ, zero, suc, ◌+◌, ◌-◌, ◌/◌, ◌<◌, Bool, cond, not, ◌&&◌, ◌||◌, List, map, length, Ok, Err, Result, ◌==◌, nat_lt, slice_index_or, slice_set, min}
+use Rattle.std.specs.Prelude.{◌≡◌, ℕ, zero, suc, ◌+◌, ◌-◌, ◌/◌, ◌<◌, Bool, cond, not, ◌&&◌, ◌||◌, List, map, length, Ok, Err, Result, ◌==◌, ◌≢◌, nat_lt, slice_index_or, slice_set, min}
 use Rattle.refusal.specs.declared.Refusal.{Refusal}
 use Rattle.refusal.specs.declared.Refusal.TheVariants.{NoSuchElement, SidesShareRing, RingsAlone}
-use Rattle.rings.specs.Circles.{meets}
+use Rattle.rings.specs.Circles.{walk, meets}
 use Rattle.rings.specs.Edits.{exchanged}
 use Rattle.topology.specs.declared.side.Side.{Side}
 use Rattle.topology.specs.declared.table.Table.{Table}
@@ -12,6 +12,7 @@ use Rattle.topology.specs.States.{State}
 use Rattle.topology.specs.Questions.{arc_count, rings_of}
 use Rattle.topology.specs.Lifts.{lifted}
 use Rattle.topology.specs.Merged.{merged}
+use Rattle.topology.specs.Divisions.{lowest_of}
 
 -- both sides of arc a stand in one ring
 abbrev pub share_ring : List Side → ℕ → Bool
@@ -29,6 +30,10 @@ in_either us a k = not (k / 2 == a) && (low_of us k == low_of us (a + a) || low_
 abbrev pub first_from : (ℕ → Bool) → ℕ → ℕ → ℕ
 first_from P k zero = k
 first_from P k (suc n) = cond (P k) k (first_from P (k + 1) n)
+
+-- the lowest side but s of the ring of s, and the number of sides where there is no other
+abbrev pub lowest_other : List Side → ℕ → ℕ
+lowest_other us s = cond (low_of us s == s) (lowest_of (length us) (walk (next_of us) (length us) s s)) (low_of us s)
 
 -- how the two rings of arc a become one: what led to one of its sides leads to what came after the other, and where that one is
 -- alone, to what came after the side itself
@@ -95,3 +100,8 @@ pub record PutBack (was is : Table Side) (u v : Side) : Type 0 where
   pub used : is.used ≡ was.used
   pub rows : is.rows.now ≡ slice_set (slice_set was.rows.now was.used u) (was.used + 1) v
   pub lent : is.rows.ghost_name ≡ was.rows.ghost_name
+
+-- each row is merged, but for those of arc a
+pub record MergedBeside (was is : List Side) (a : ℕ) (c : Merging) : Type 0 where
+  pub long : length is ≡ length was
+  pub rows : (k : ℕ) → k < length was → (k / 2 ≢ a) → slice_index_or is k no_side ≡ merged c (slice_index_or was k no_side)

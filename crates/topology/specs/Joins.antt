@@ -5,15 +5,16 @@ use Rattle.refusal.specs.declared.Refusal.{Refusal}
 use Rattle.refusal.specs.declared.Refusal.TheVariants.{NoSuchElement, NotTwoEndsOfTwoArcs, NoRoom}
 use Rattle.rings.specs.Circles.{ring, kept}
 use Rattle.rings.specs.Law.{opp, turn}
-use Rattle.rings.specs.Edits.{swapped, exchanged, fill, leave}
+use Rattle.rings.specs.Edits.{swapped, fill, leave}
 use Rattle.rings.specs.LetIn.{without}
 use Rattle.topology.specs.declared.side.Side.{Side}
 use Rattle.topology.specs.declared.vertex.Vertex.{Vertex}
 use Rattle.topology.specs.Rows.{next_of, node_of, polygon_of, row_of, low_of}
 use Rattle.topology.specs.States.{State}
-use Rattle.topology.specs.Questions.{arc_count}
+use Rattle.topology.specs.Questions.{arc_count, rings_of}
 use Rattle.topology.specs.Islands.{vertex_room}
 use Rattle.topology.specs.Lifts.{lifted}
+use Rattle.topology.specs.Dissolves.{number_before}
 
 -- the sides that begin at a node, rising
 abbrev pub ends : List Side → ℕ → List ℕ
@@ -44,7 +45,7 @@ turned_if b xs = cond b (reverse xs) xs
 
 -- the vertices along side s
 abbrev pub along : List Side → List Vertex → ℕ → List Vertex
-along us vs s = cond (s % 2 == 0) (run_of us vs (s / 2)) (reverse (run_of us vs (s / 2)))
+along us vs s = turned_if (s % 2 == 1) (run_of us vs (s / 2))
 
 -- the vertices along the opposite of s and on along t, that of the node once
 abbrev pub through : List Side → List Vertex → ℕ → ℕ → List Vertex
@@ -52,7 +53,7 @@ through us vs s t = along us vs (opp s) ++ drop 1 (along us vs t)
 
 -- .. in the direction of the arc of s
 abbrev pub joined_run : List Side → List Vertex → ℕ → ℕ → List Vertex
-joined_run us vs s t = cond (s % 2 == 0) (reverse (through us vs s t)) (through us vs s t)
+joined_run us vs s t = turned_if (s % 2 == 0) (through us vs s t)
 
 -- the arc of s has its vertices from one row to another, and s begins where the opposite of t began; each side of the arc of t is a ring
 -- alone, at the node where s and t began, and both stand under one polygon
@@ -100,29 +101,32 @@ join_outcome m v =
     (Err NotTwoEndsOfTwoArcs))
     (Err NoSuchElement)
 
--- What a join of the arcs of s and t means, where t is of the higher arc. Side k was number_before k: the last arc has taken the number of that
--- which went. The rings stand as they did, without the two sides of that arc. In the turns s stands where the opposite of t stood, and begins at
--- its node; the others stand where they stood; the last node has taken the number of that which went. Polygons stay. The arc of s has the
--- vertices through both arcs, and the others have theirs.
-abbrev pub side_before : State → ℕ → ℕ → ℕ
-side_before was t k = exchanged (t / 2) (arc_count was - 1) k
+-- What a join of the arcs of s and t means, where t is of the higher arc. There is one arc fewer and one node fewer, and as many rings and
+-- polygons. Side k was number_before k: the last arc has taken the number of that which went. The rings stand as they did, without the two
+-- sides of that arc. In the turns s stands where the opposite of t stood, and begins at its node; the others stand where they stood; the last
+-- node has taken the number of that which went. Polygons stay. The arc of s has the vertices through both arcs, and the others have theirs.
 
 -- the side that stood before where side k stands in its turn
 abbrev pub end_before : State → ℕ → ℕ → ℕ → ℕ
-end_before was s t k = swapped s (opp t) (side_before was t k)
+end_before was s t k = swapped s (opp t) (number_before was (t / 2) k)
 
 -- the side that stands where side k stood
 abbrev pub end_after : State → ℕ → ℕ → ℕ → ℕ
-end_after was s t k = side_before was t (swapped s (opp t) k)
+end_after was s t k = number_before was (t / 2) (swapped s (opp t) k)
 
 pub record Joined (was is : State) (s t : ℕ) : Type 0 where
+  pub hand : is.hand ≡ was.hand
+  pub arc_gone : arc_count is + 1 ≡ arc_count was
+  pub node_gone : is.nodes + 1 ≡ was.nodes
+  pub as_many_polygons : is.polygons ≡ was.polygons
+  pub as_many_rings : length (rings_of is) ≡ length (rings_of was)
   pub rings : (k : ℕ) → k < length is.sides →
       ring (next_of is.sides) (length is.sides) k
-      ≡ map (side_before was t) (without t (without (opp t) (ring (next_of was.sides) (length was.sides) (side_before was t k))))
+      ≡ map (number_before was (t / 2)) (without t (without (opp t) (ring (next_of was.sides) (length was.sides) (number_before was (t / 2) k))))
   pub turns : (k : ℕ) → k < length is.sides →
       ring (turn (next_of is.sides)) (length is.sides) k
       ≡ map (end_after was s t) (ring (turn (next_of was.sides)) (length was.sides) (end_before was s t k))
   pub nodes : (k : ℕ) → k < length is.sides → node_of is.sides k ≡ fill (node_of was.sides s) (was.nodes - 1) (node_of was.sides (end_before was s t k))
-  pub polygons : (k : ℕ) → k < length is.sides → polygon_of is.sides k ≡ polygon_of was.sides (side_before was t k)
+  pub polygons : (k : ℕ) → k < length is.sides → polygon_of is.sides k ≡ polygon_of was.sides (number_before was (t / 2) k)
   pub one_run : run_of is.sides is.vertices (s / 2) ≡ joined_run was.sides was.vertices s t
-  pub other_runs : (b : ℕ) → b < arc_count is → (b ≡ s / 2 → ⊥) → run_of is.sides is.vertices b ≡ run_of was.sides was.vertices (swapped (t / 2) (arc_count was - 1) b)
+  pub other_runs : (b : ℕ) → b < arc_count is → (b ≢ s / 2) → run_of is.sides is.vertices b ≡ run_of was.sides was.vertices (swapped (t / 2) (arc_count was - 1) b)

@@ -26,3 +26,14 @@ renumbered c s = record {
   next = side_filled c s.next;
   low = low_filled c s.low;
 }
+
+-- the same one number after the other: a row whose next side and lowest side have their new numbers, one whose node has, and one whose
+-- polygon has
+abbrev pub sides_renumbered : Renumbering → Side → Side
+sides_renumbered c s = record { node = s.node; row = s.row; polygon = s.polygon; next = side_filled c s.next; low = low_filled c s.low }
+
+abbrev pub node_renumbered : Renumbering → Side → Side
+node_renumbered c s = record { node = fill c.node c.last_node s.node; row = s.row; polygon = s.polygon; next = s.next; low = s.low }
+
+abbrev pub polygon_renumbered : Renumbering → Side → Side
+polygon_renumbered c s = record { node = s.node; row = s.row; polygon = polygon_filled c s.polygon; next = s.next; low = s.low }

@@ -28,14 +28,15 @@ impl<'a> Map<'a> {
     }
 
     // Adds an island of a run that makes a closed arc.
-    // Stays: that there is room, which the edit has just tested, is a condition here and of the two other functions that add an arc. A type for it would hold for one state of one map.
+    // Stays: that there is room, which the edit has just tested, is a condition here and of the other functions that add an arc or vertices. A type for it would hold for one state of one map, and is no plainer.
     fn add_island(&mut self, polygon: usize, run: &[Vertex])
         requires known { polygon < self.old.polygons }
         requires closed { closed_run run.now ≡ true }
         requires room { (arc_room (state_of self.old) && vertex_room (state_of self.old) (length run.now)) ≡ true }
         ensures done { Done (λ m. island_outcome m polygon run.now) self.old self.new }
         ensures rings { length (rings_of (state_of self.new)) ≡ length (rings_of (state_of self.old)) + 2 }
-        ensures counts { (self.new.nodes ≡ self.old.nodes + 1) × (self.new.sides.used ≡ self.old.sides.used + 2) }
+        ensures nodes { self.new.nodes ≡ self.old.nodes + 1 }
+        ensures sides { self.new.sides.used ≡ self.old.sides.used + 2 }
     {
         let n = self.sides.used as u32;
         let first = self.vertices.used as u32;

@@ -28,6 +28,7 @@ fn first_end(sides: &[Side], node: usize) -> Option<usize>
 }
 
 // Turns rows round, or leaves them as they stand.
+// Stays: a flag tells which, here and in the two functions that add rows once more. An enum of two cases, made of a test of two remainders in one caller, is no plainer.
 fn turn_if<T>(rows: &mut [T], backwards: bool)
     ensures { rows.new ≡ turned_if backwards rows.old }
 {
@@ -141,6 +142,7 @@ impl<'a> Map<'a> {
             .ok_or(Refusal::NotTwoEndsOfTwoArcs)
     }
 
+    // Stays: the two ends go together here and in the functions that come after. A struct of two numbers would be taken apart in each, and is no plainer.
     // The rows of the vertices of an arc, and those of another arc beyond the node where it begins or ends.
     fn joined_rows(&self, stays: usize, goes: usize) -> (Range<usize>, Range<usize>)
         requires { TwoEnds (state_of self.now).sides stays goes }
@@ -148,8 +150,10 @@ impl<'a> Map<'a> {
         ensures whole_end { result.0.end ≡ row_of (state_of self.now).sides (stays / 2 + stays / 2 + 1) + 1 }
         ensures rest_start { result.1.start ≡ (if nat_eq (goes % 2) 0 then row_of (state_of self.now).sides (goes / 2 + goes / 2) + 1 else row_of (state_of self.now).sides (goes / 2 + goes / 2)) }
         ensures rest_end { result.1.end ≡ result.1.start + (row_of (state_of self.now).sides (goes / 2 + goes / 2 + 1) - row_of (state_of self.now).sides (goes / 2 + goes / 2)) }
-        ensures ordered { (result.0.start ≤ result.0.end) × (result.1.start ≤ result.1.end) }
-        ensures in_use { (result.0.end ≤ length (state_of self.now).vertices) × (result.1.end ≤ length (state_of self.now).vertices) }
+        ensures whole_ordered { result.0.start ≤ result.0.end }
+        ensures rest_ordered { result.1.start ≤ result.1.end }
+        ensures whole_in_use { result.0.end ≤ length (state_of self.now).vertices }
+        ensures rest_in_use { result.1.end ≤ length (state_of self.now).vertices }
     {
         let sides = self.sides.in_use();
         let a = stays / 2;

@@ -75,6 +75,7 @@ impl<'a> Table<'a, Side> {
         renumber(&mut self.rows[..self.used], numbers);
     }
 
+    // Stays: that there is a polygon, as the law of a map has it, is a condition here and of two functions on numbers. A type of counts that are not 0 would be made for these three, and is no plainer.
     // Takes an arc out, with the node where it begins and, where its sides have two polygons, the higher of them. Tells how many polygons are left.
     pub(crate) fn take_out(&mut self, arc: usize, nodes: usize, polygons: usize) -> usize
         requires here { arc + arc + 1 < self.old.used }
@@ -115,14 +116,15 @@ impl<'a> Map<'a> {
     }
 
     // Takes a closed arc away that stands alone and leaves a ring.
-    // Stays: that there is such an arc is a condition of this last step of an edit, of `split_arc`, of `dissolve_arc` and of the functions on rows that these call. A type of the numbers of arcs would hold for one state of one map, and each edit would make it anew.
+    // Stays: that there is such an arc is a condition of this last step of an edit, of `split_arc`, of `dissolve_arc` and of the functions on rows that these call. A type of the numbers of arcs would hold for one state of one map, and each edit would make it anew; it is no plainer.
     fn lift_arc(&mut self, arc: usize)
         requires here { arc < arc_count (state_of self.old) }
         requires alone { closed_alone (state_of self.old).sides arc ≡ true }
         requires leaves { ring_left (state_of self.old).sides arc ≡ true }
         ensures done { Done (λ m. lift_outcome m arc) self.old self.new }
         ensures rings { length (rings_of (state_of self.new)) + 2 ≡ length (rings_of (state_of self.old)) }
-        ensures counts { (self.new.nodes + 1 ≡ self.old.nodes) × (self.new.sides.used + 2 ≡ self.old.sides.used) }
+        ensures nodes { self.new.nodes + 1 ≡ self.old.nodes }
+        ensures sides { self.new.sides.used + 2 ≡ self.old.sides.used }
     {
         self.polygons = self.sides.take_out(arc, self.nodes, self.polygons);
         self.nodes -= 1;

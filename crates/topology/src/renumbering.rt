@@ -1,6 +1,6 @@
 ghost use Rattle.std.specs.Prelude.{◌≡◌, ℕ, ◌+◌, ◌<◌, map};
 ghost use Rattle.rings.specs.Edits.{fill};
-ghost use Rattle.topology.specs.Renumbered.{renumbered};
+ghost use Rattle.topology.specs.Renumbered.{renumbered, sides_renumbered, node_renumbered, polygon_renumbered};
 
 use super::rows::change_each;
 use super::side::Side;
@@ -31,30 +31,71 @@ pub(crate) fn renamed(from: u32, to: u32, k: u32) -> u32
 }
 
 impl Renumbering {
-    // A row under the changed numbers.
-    fn row(self, side: Side) -> Side
-        ensures { result ≡ renumbered self side }
+    // A row whose next side and lowest side have their new numbers.
+    fn sides_of(self, row: Side) -> Side
+        ensures { result ≡ sides_renumbered self row }
     {
         let unturned = u32::from(self.side);
         let last = u32::from(self.last_side);
-        let low = if side.low == self.low_unturned {
+        let low = if row.low == self.low_unturned {
             self.low_unturned.min(unturned)
-        } else if side.low == self.low_turned {
+        } else if row.low == self.low_turned {
             self.low_turned.min(unturned + 1)
         } else {
-            side.low
+            row.low
         };
         Side {
-            node: renamed(self.last_node, self.node, side.node),
-            polygon: renamed(
-                self.last_polygon,
-                self.polygon,
-                renamed(self.polygon, self.into, side.polygon),
-            ),
-            next: renamed(last, unturned, renamed(last + 1, unturned + 1, side.next)),
+            next: renamed(last, unturned, renamed(last + 1, unturned + 1, row.next)),
             low,
-            ..side
+            ..row
         }
+    }
+}
+
+// The rows, with the new numbers of sides. Where none has another there is nothing to change.
+fn renumber_sides(rows: &mut [Side], numbers: Renumbering)
+    ensures { rows.new ≡ map (sides_renumbered numbers) rows.old }
+{
+    let unturned = u32::from(numbers.side);
+    if numbers.side != numbers.last_side
+        || numbers.low_unturned > unturned
+        || numbers.low_turned > unturned + 1
+    {
+        change_each(rows, |row| numbers.sides_of(row));
+    }
+}
+
+// The rows, with the new numbers of nodes.
+fn renumber_nodes(rows: &mut [Side], numbers: Renumbering)
+    ensures { rows.new ≡ map (node_renumbered numbers) rows.old }
+{
+    if numbers.node != numbers.last_node {
+        change_each(
+            rows,
+            |row| Side {
+                node: renamed(numbers.last_node, numbers.node, row.node),
+                ..row
+            },
+        );
+    }
+}
+
+// The rows, with the new numbers of polygons.
+fn renumber_polygons(rows: &mut [Side], numbers: Renumbering)
+    ensures { rows.new ≡ map (polygon_renumbered numbers) rows.old }
+{
+    if numbers.polygon != numbers.into || numbers.polygon != numbers.last_polygon {
+        change_each(
+            rows,
+            |row| Side {
+                polygon: renamed(
+                    numbers.last_polygon,
+                    numbers.polygon,
+                    renamed(numbers.polygon, numbers.into, row.polygon),
+                ),
+                ..row
+            },
+        );
     }
 }
 
@@ -62,5 +103,7 @@ impl Renumbering {
 pub(crate) fn renumber(rows: &mut [Side], numbers: Renumbering)
     ensures { rows.new ≡ map (renumbered numbers) rows.old }
 {
-    change_each(rows, |side| numbers.row(side));
+    renumber_sides(rows, numbers);
+    renumber_nodes(rows, numbers);
+    renumber_polygons(rows, numbers);
 }

@@ -66,7 +66,8 @@ impl<'a> Map<'a> {
         ensures done { Done (λ m. split_outcome m arc k) self.old self.new }
         ensures parts { Parts (state_of self.old) (state_of self.new) arc k }
         ensures rings { length (rings_of (state_of self.new)) ≡ length (rings_of (state_of self.old)) }
-        ensures counts { (self.new.nodes ≡ self.old.nodes + 1) × (self.new.sides.used ≡ self.old.sides.used + 2) }
+        ensures nodes { self.new.nodes ≡ self.old.nodes + 1 }
+        ensures sides { self.new.sides.used ≡ self.old.sides.used + 2 }
     {
         let at = self.sides.rows[arc + arc].row as usize + k;
         let vertex = self.vertices.rows[at];

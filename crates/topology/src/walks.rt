@@ -33,7 +33,7 @@ pub(crate) fn find_ring(sides: &[Side], k: usize) -> Option<(usize, usize)>
 }
 
 // The side that comes before a side in its ring, found by turning about the node where the side begins.
-// Stays: the chain is that of `lowest_of_ring` along other links. One function for both, with a closure that leads on and one that folds, was tried and is no plainer: its contract tells what both closures answer, in a definition longer than the chain, and three of its goals ask when they may be called.
+// Stays: the chain is that of `lowest_beside` along other links. One function for both, with a closure that leads on and one that folds, was tried and is no plainer: its contract tells what both closures answer, in a definition longer than the chain, and three of its goals ask when they may be called.
 pub(crate) fn before(sides: &[Side], side: u32) -> u32
     requires turned { InTurns sides.now (length sides.now) }
     requires even { length sides.now % 2 ≡ 0 }

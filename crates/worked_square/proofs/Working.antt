@@ -1,14 +1,17 @@
 -- The worked square, computed.
-use Rattle.std.proofs.Common.{◌≡◌, ℕ, ◌<◌, zero, suc, false, List, pos, Ok, Err, Result, refl, ap, ◌∙◌, arith}
+use Rattle.std.proofs.Common.{◌≡◌, ℕ, zero, suc, false, List, [], ◌∷◌, map, take, min, pos, Ok, Result, refl, sym, ap, ◌∙◌}
+use Rattle.std.proofs.lemmas.List.{take-map, take_min}
 use lib.Ieee.{fin, binary64, of_bits, eq}
 use Rattle.std.specs.Float.{float_is_finite}
 use Rattle.std.specs.Fmt.{digits}
-use Rattle.refusal.specs.declared.Refusal.{Refusal}
 use Rattle.topology.specs.declared.vertex.Vertex.{Vertex}
+use Rattle.refusal.specs.declared.Refusal.{Refusal}
 use Rattle.topology.specs.States.{State}
 use Rattle.topology.specs.Islands.{island_outcome}
 use Rattle.listing.specs.Texts.{listing}
-use Rattle.worked_square.specs.Squares.{square, square_after, text_after}
+use Rattle.calls.specs.declared.call.Call.{Call}
+use Rattle.history.specs.Runs.{World, after, replayed}
+use Rattle.worked_square.specs.Squares.{square, Line, call_of, lines, blank_text, start, Worked, square_after, text_from, text_after}
 
 pub nought_is : of_bits binary64 0 ≡ fin false 0 (pos 0)
 unfolding of_bits
@@ -18,31 +21,31 @@ pub ten_is : of_bits binary64 4621819117588971520 ≡ fin false 5 (pos 1)
 unfolding of_bits
 ten_is = refl
 
-pub texts : (k : ℕ) → listing (square_after k) ≡ text_after k
-unfolding digits
-texts zero = refl
-texts (suc k) = refl
+-- the whole working, each part by computing both sides
+pub worked : Worked start blank_text lines
+unfolding digits float_is_finite eq
+worked = (refl, refl, (refl, refl, (refl, refl, (refl, refl, (refl, refl, (refl, refl, (refl, refl, (refl, refl, (refl, refl, refl)))))))))
 
 pub island_taken : ◌≡◌ {A = Result State Refusal} (island_outcome (square_after 0) 0 square) (Ok (square_after 1))
 unfolding float_is_finite eq
 island_taken = refl
 
--- ---- a step that is taken
+-- ---- a map that was worked so far
 
--- what an island in the blank map, round the square, gives
-pub step_is : (o : Result State Refusal) (m : State) (vs : List Vertex) → o ≡ island_outcome m 0 vs → m ≡ square_after 0 → vs ≡ square → ◌≡◌ {A = Result State Refusal} o (Ok (square_after 1))
-step_is o m vs e f g = e ∙ ap (λ (k : State). island_outcome k 0 vs) f ∙ ap (island_outcome (square_after 0) 0) g ∙ island_taken
+-- where the first k calls of a working were played, the map lists as the last of their lines says
+pub listed : (w : World) (text : List ℕ) (ls : List Line) → Worked w text ls → (k : ℕ) → listing (replayed w (take k (map call_of ls))).state ≡ text_from text ls k
+listed w text [] e zero = e
+listed w text [] e (suc k) = e
+listed w text (l ∷ ls) (h, a, e) zero = h
+listed w text (l ∷ ls) (h, a, e) (suc k) = listed (after w l.call) l.text ls e k
 
-pub not_refused : (e : Refusal) → ◌≡◌ {A = Result State Refusal} (Err e) (Ok (square_after 1)) → ⊥
-not_refused e p = let z : ◌≡◌ {A = ℕ} 0 1 = cc in omega arith
+pub all_listed : (k : ℕ) → listing (square_after k) ≡ text_after k
+all_listed = listed start blank_text lines worked
 
-pub left_by : (m : State) → ◌≡◌ {A = Result State Refusal} (Ok m) (Ok (square_after 1)) → m ≡ square_after 1
-left_by m p = cc
-
-pub after_one : (steps : ℕ) → 0 < steps → square_after 1 ≡ square_after steps
-after_one zero h = absurd (omega arith)
-after_one (suc k) h = refl
-
--- the text of a listing, where the state after so many steps was listed
-pub listed_as : (m : State) (steps : ℕ) → m ≡ square_after steps → listing m ≡ text_after steps
-listed_as m steps e = ap listing e ∙ texts steps
+-- the listing of a map on which so many of the calls were played, or all of them when there are not so many
+pub played : {X : Type 0} (f : X → Call (List Vertex)) (cs : List X) (m : State) (w : World) (n k : ℕ) →
+    m ≡ start.state → map f cs ≡ map call_of lines → n ≡ min k 9 → w ≡ replayed (record { state = m; text = [] }) (map f (take n cs)) → listing w.state ≡ text_after k
+played f cs m w n k s c l e =
+    let h : map f (take n cs) ≡ take k (map call_of lines) =
+    sym (take-map f n cs) ∙ ap (take n) c ∙ ap (λ (j : ℕ). take j (map call_of lines)) l ∙ take_min k (map call_of lines) in
+    ap (λ (v : World). listing v.state) (e ∙ ap (λ (v : State). replayed (record { state = v; text = [] }) (map f (take n cs))) s ∙ ap (replayed start) h) ∙ all_listed k

@@ -109,6 +109,6 @@ returns c =
         sides_lent = lent_kept m s t w c.go_on.new.self c.take_out-self.new.self c.put_back.new.self c.push_joined.new.self _ _ _ _ c.requires.room refl l c.go_on.ensures c.take_out-self.ensures.rows c.put_back.ensures c.take_out-self.ensures.left c.push_joined.ensures p;
         vertices_lent = c.push_joined.ensures.lent;
       };
-      joined = subst (λ (x : State). Joined (state_of m) x s t) (sym i) (join_means (state_of m) (lawful_of m) s t w);
+      joined = subst (λ (x : State). Joined (state_of m) x s t) (sym i) (join_means (state_of m) (lawful_of m) s t w (omega (arith, c.requires.known)));
       sum = subst (λ (x : State). Rises 0 (state_of m) x) (sym i) (join_sum (state_of m) (lawful_of m) s t w (omega (arith, c.requires.known)));
     }

@@ -22,8 +22,10 @@ pub returns-clause-rings : goal.returns-clause-rings
 returns-clause-rings c =
     lift_fewer c.args.self.now c.take_out-self.new.self c.args.arc _ c.requires.here c.requires.alone c.requires.leaves c.take_out-self.ensures.rows c.take_out-self.ensures.left
 
-pub returns-clause-counts : goal.returns-clause-counts
-returns-clause-counts c =
+pub returns-clause-nodes : goal.returns-clause-nodes
+returns-clause-nodes c = let h = some_node c.args.self.now c.args.arc c.requires.here in omega (arith, h)
+
+pub returns-clause-sides : goal.returns-clause-sides
+returns-clause-sides c =
     let m = c.args.self.now in
-    let h = some_node m c.args.arc c.requires.here in
-    (omega (arith, h), omega (arith, taken_used m.sides c.take_out-self.new.self _ _ c.args.arc c.take_out-self.ensures.rows, length-take-le m.sides.used m.sides.rows.now m.sides.fits, c.requires.here))
+    omega (arith, taken_used m.sides c.take_out-self.new.self _ _ c.args.arc c.take_out-self.ensures.rows, length-take-le m.sides.used m.sides.rows.now m.sides.fits, c.requires.here)

@@ -40,5 +40,6 @@ returns c =
       };
       parts = parts;
       rings = rings_kept (state_of m) _ a k parts;
-      counts = (refl, used_two m a k c.requires.here c.requires.within s v _ _ c.requires.room c.part.ensures c.push.ensures at vertex);
+      nodes = refl;
+      sides = used_two m a k c.requires.here c.requires.within s v _ _ c.requires.room c.part.ensures c.push.ensures at vertex;
     }

@@ -7,7 +7,7 @@ use Rattle.rings.proofs.Closed.{within}
 use Rattle.rings.proofs.Ringed.{ringed_circles}
 use Rattle.topology.specs.Rows.{next_of}
 use Rattle.topology.proofs.Rounds.{YieldsList-following, walk_round, lowest_folds}
-use Rattle.topology.proofs.dividing.lowest_of_ring.Goals as goal
+use Rattle.topology.proofs.dividing.lowest_beside.Goals as goal
 
 pub returns : goal.returns
 returns c =
@@ -16,10 +16,10 @@ returns c =
     let f = next_of us in
     let s = c.args.start in
     let stays = within f n (rings f n) (ringed_circles f n c.requires.ringed) in
-    fold_from_yields_List _ min s c.fold.result c.fold.ensures.ran
+    fold_from_yields_List _ min c.args.from c.fold.result c.fold.ensures.ran
     (YieldsList-from_take_while _ (λ y. not (eqb s y))
     (YieldsList-at c.take_while.ensures.source (YieldsList-following _ f n stays _ (λ x r q k. search (rules, tests)) n (f s) _ (stays s c.requires.here) c.take.ensures.count
     (ap successors_callee c.take.ensures.source ∙ c.successors.ensures.closure) (ap successors_next c.take.ensures.source ∙ c.successors.ensures.item)))
     c.take_while.ensures.closure c.take_while.ensures.done (λ x b q k. search (rules, tests)))
     (λ a x b q k. search (rules, tests))
-    ∙ (ap (fold min s) (walk_round f n s s) ∙ lowest_folds s (walk f n s s))
+    ∙ (ap (fold min c.args.from) (walk_round f n s s) ∙ lowest_folds c.args.from (walk f n s s))
