@@ -27,3 +27,4 @@ pub mod SameLow
 pub mod SideOut
 pub mod Renamed
 pub mod TakesOver
+pub mod DivideRings

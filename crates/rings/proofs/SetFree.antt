@@ -1,15 +1,20 @@
 -- An arc is set free: it goes out of the rings of its two sides, which become one, and out of the turns at its ends.
 use Rattle.std.proofs.Common.{◌≡◌, ℕ, suc, ◌+◌, ◌%◌, ◌<◌, ◌≤◌, Bool, true, false, cond, ◌&&◌, eqb, ltb, ◌⊎◌, List, [], ◌∷◌, ◌++◌, length, sym, refl, ap, ◌∙◌, subst, inl, inr, arith}
-use Rattle.std.proofs.lemmas.Bool.{cases_eq, cases_lt, eq-eqb, ne_eqb, lt-ltb, le-ltb, and_from, and_left, and_right, both_ways}
+use Rattle.std.proofs.lemmas.Bool.{cases_eq, cases_lt, eq-eqb, ne_eqb, lt-ltb, le-ltb, and_from, and_left, and_right, both_ways, ltb-true}
 use Rattle.std.proofs.lemmas.Bool.Decides.{nat_tests}
-use Rattle.rings.specs.Circles.{one_if, occ, occs, Chain, AllCircles, Circles, names, rings, meets}
+use Rattle.std.proofs.lemmas.List.{append-nil}
+use Rattle.rings.specs.Circles.{one_if, occ, occs, Chain, AllCircles, Circles, first, names, walk, ring, rings, meets}
+use Rattle.rings.specs.Edits.{leave}
+use Rattle.rings.specs.LetIn.{without}
 use Rattle.rings.specs.Law.{opp, turn, Ringed, Closes, Along, Noded, LowAlong, LowNames}
 use Rattle.rings.proofs.Occurs.{occ_append, one_same, one_other, one_most, below_one, below_more}
 use Rattle.rings.proofs.Chains.{picked, chain_join, chain_label}
 use Rattle.rings.proofs.Surgery.{InOne, InTwo, one_or_two, in_two, two_apart, names_from}
-use Rattle.rings.proofs.Listing.{listed}
+use Rattle.rings.proofs.Listing.{listed, pigeon, walk_is, ring_is}
 use Rattle.rings.proofs.Ringed.{ringed_circles, circles_ringed}
-use Rattle.rings.proofs.Closed.{within, meets_next, meets_self}
+use Rattle.rings.proofs.Closed.{within, meets_next, meets_self, meets_sym}
+use Rattle.rings.proofs.TwoRings.{meets_low, ring_from}
+use Rattle.rings.proofs.SideOut.{without_most, without_none, leave_past, leave_else, ringed_out, ring_out}
 use Rattle.rings.proofs.Split.{opp_low, opp_opp}
 use Rattle.rings.proofs.LowMeets.{low_told}
 
@@ -64,6 +69,7 @@ record Joined (f h : ℕ → ℕ) (s o : ℕ) (xs ys : List ℕ) : Type 0 where
   pub closed : Chain h head more head
   pub same : (k : ℕ) → one_if (eqb k head) + occ k more ≡ occ k xs + occ k ys
   pub after : (head ≡ f s) ⊎ (head ≡ f o)
+  pub all : head ∷ more ≡ xs ++ ys
 
 module _ (f h pass : ℕ → ℕ) (s o : ℕ) (else' : (x : ℕ) → (x ≡ s → ⊥) → (x ≡ o → ⊥) → pass x ≡ x) where
   -- the members between s and z and those between o and w, where z and w are s and o or o and s
@@ -80,6 +86,7 @@ module _ (f h pass : ℕ → ℕ) (s o : ℕ) (else' : (x : ℕ) → (x ≡ s �
           closed = passes f h pass s o else' x z x xs hx (λ y l. st y (omega arith)) (za d ∙ c.0) c.1;
           same = λ k. omega arith;
           after = inl (sym c.0);
+          all = sym (append-nil (x ∷ xs));
         }
     joined [] (y ∷ ys) st c d =
         let (ns, nt, hy) = st y (omega (arith, one_same y)) in
@@ -89,6 +96,7 @@ module _ (f h pass : ℕ → ℕ) (s o : ℕ) (else' : (x : ℕ) → (x ≡ s �
           closed = passes f h pass s o else' y w y ys hy (λ x l. st x (omega arith)) (wa c ∙ d.0) d.1;
           same = λ k. omega arith;
           after = inr (sym d.0);
+          all = refl;
         }
     joined (x ∷ xs) (y ∷ ys) st c d =
         let (ns, nt, hx) = st x (omega (arith, one_same x)) in
@@ -102,6 +110,7 @@ module _ (f h pass : ℕ → ℕ) (s o : ℕ) (else' : (x : ℕ) → (x ≡ s �
               (passes f h pass s o else' y w x ys hy (λ u l. st u (omega arith)) (wn (λ e. (ends x ns nt).0 (sym c.0 ∙ e)) ∙ c.0) d.1);
           same = λ k. omega (arith, occ_append k xs (y ∷ ys));
           after = inl (sym c.0);
+          all = refl;
         }
 
   -- a circle without its first member, which leads back to itself
@@ -149,8 +158,40 @@ module _ (f h : ℕ → ℕ) (n s o : ℕ) (r : Ringed f n) (ls : s < n) (lo : o
   pub count_free : length (rings h n) ≡ suc (length (rings f n))
   count_free = omega (arith, (listed h n freed hc).count, t.fewer)
 
+  in_order : (x : ℕ) (xs ys : List ℕ) → (y : ℕ) → ring h n y ≡ y ∷ ys → y ∷ ys ≡ x ∷ xs → ring h n x ≡ x ∷ xs
+  in_order x xs ys y w e = ap (ring h n) (sym (ap first e)) ∙ (w ∙ e)
+
+  -- the one ring: the sides after s, then the sides after o
+  pub one_ring : (x : ℕ) (xs : List ℕ) → walk f n s s ++ walk f n o o ≡ x ∷ xs → ring h n x ≡ x ∷ xs
+  one_ring x xs e =
+      let ws : walk f n s s ≡ t.xs = walk_is f n s s t.xs t.a_to_a (omega (arith, t.parts.once s, one_same s, one_most (ltb s n))) (pigeon n t.xs (λ k. omega (arith, t.parts.once k))) in
+      let wo : walk f n o o ≡ t.ys = walk_is f n o o t.ys t.b_to_b (omega (arith, t.parts.once o, one_same o, one_most (ltb o n))) (pigeon n t.ys (λ k. omega (arith, t.parts.once k))) in
+      let a : one.head ∷ one.more ≡ x ∷ xs = one.all ∙ (sym (ap (λ (zs : List ℕ). zs ++ walk f n o o) ws ∙ ap (λ (zs : List ℕ). t.xs ++ zs) wo) ∙ e) in
+      in_order x xs one.more one.head (ring_is h n one.head one.more one.closed (λ k. omega (arith, hc.once k))) a
+
+  -- any other ring stays
+  pub other_ring : (k : ℕ) → k < n → meets f n s k ≡ false → meets f n o k ≡ false → ring h n k ≡ ring f n k
+  other_ring k l ms mo =
+      ring_from f h n n k r l (omega arith)
+      (λ x m.
+      let lx = meets_low f n k x r l m in
+      let not : (y : ℕ) → y < n → meets f n y k ≡ false → meets f n k y ≡ true → ⊥ = λ y ly a b. both_ways (meets f n y k) a (meets_sym f n (rings f n) fc y k ly l ∙ b) in
+      let on = meets_next f n (rings f n) fc k x l lx ∙ m in
+      at_else x lx (λ e. not s ls ms (ap (meets f n k) (sym e) ∙ m)) (λ e. not o lo mo (ap (meets f n k) (sym e) ∙ m))
+      ∙ past_else f s o (f x) (λ e. not s ls ms (ap (meets f n k) (sym e) ∙ on)) (λ e. not o lo mo (ap (meets f n k) (sym e) ∙ on)))
+
   head_stays : Stays f h (past f s o) s o one.head
   head_stays = stays one.head (omega (arith, one.same one.head, one_same one.head))
+
+  -- .. its first side is another than s and o
+  pub first_there : (x : ℕ) (xs : List ℕ) → walk f n s s ++ walk f n o o ≡ x ∷ xs → (x < n) × (x ≡ s → ⊥) × (x ≡ o → ⊥)
+  first_there x xs e =
+      let ws : walk f n s s ≡ t.xs = walk_is f n s s t.xs t.a_to_a (omega (arith, t.parts.once s, one_same s, one_most (ltb s n))) (pigeon n t.xs (λ k. omega (arith, t.parts.once k))) in
+      let wo : walk f n o o ≡ t.ys = walk_is f n o o t.ys t.b_to_b (omega (arith, t.parts.once o, one_same o, one_most (ltb o n))) (pigeon n t.ys (λ k. omega (arith, t.parts.once k))) in
+      let both : t.xs ++ t.ys ≡ x ∷ xs = sym (ap (λ (zs : List ℕ). zs ++ walk f n o o) ws ∙ ap (λ (zs : List ℕ). t.xs ++ zs) wo) ∙ e in
+      let here : 0 < occ x t.xs + occ x t.ys = omega (arith, occ_append x t.xs t.ys, ap (occ x) both, one_same x) in
+      let w = stays x (omega arith) in
+      (below_one x n (omega (arith, t.parts.once x)), w.0, w.1)
 
   -- where the ring leads on from a side that stays: to a side that stays, as before or past the arc
   pub record Leads (k : ℕ) : Type 0 where
@@ -470,6 +511,61 @@ module _ (f h : ℕ → ℕ) (n s o : ℕ) (r : Ringed f n) (ls : s < n) (lo : o
 
     pub turned_free : Ringed (turn h) n
     turned_free = circles_ringed (turn h) n turns.circles turns.are
+
+    -- the turns but for the arc's sides: each passes them by
+    abbrev t₁ : ℕ → ℕ
+    t₁ = leave (turn f) s
+
+    abbrev t₂ : ℕ → ℕ
+    t₂ = leave t₁ o
+
+    s_on : turn f s ≡ s → ⊥
+    s_on e = not_os (sym turn_s ∙ e)
+
+    o_on : t₁ o ≡ o → ⊥
+    o_on e =
+        elim (cases_eq (turn f o) s) [
+          | inl i ↦ nb (sym turn_o ∙ i) (sym turn_s ∙ (sym (leave_past (turn f) s o ne i) ∙ e))
+          | inr ni ↦ not_so (sym turn_o ∙ (sym (leave_else (turn f) s o ne ni) ∙ e))
+        ]
+
+    passed_by : (x : ℕ) → x < n → (x ≡ s → ⊥) → (x ≡ o → ⊥) → turn h x ≡ t₂ x
+    passed_by x l ns nt =
+        let e = free_else x l ns nt in
+        let at_o : t₁ o ≡ past f s o o =
+        elim (cases_eq (f s) s) [
+          | inl i ↦ leave_past (turn f) s o ne (turn_o ∙ i) ∙ (turn_s ∙ sym (past_o_alone f s o ne i))
+          | inr ni ↦ leave_else (turn f) s o ne (λ i. ni (sym turn_o ∙ i)) ∙ (turn_o ∙ sym (past_o f s o ne ni))
+        ] in
+        elim (cases_eq (turn f x) s) [
+          | inl i ↦
+              let w = leave_past (turn f) s x ns i ∙ turn_s in
+              elim (cases_eq (f o) o) [
+                | inl j ↦
+                    e ∙ (ap (past f s o) i ∙ (past_s_alone f s o j
+                    ∙ sym (leave_past t₁ o x nt (w ∙ j) ∙ (leave_else (turn f) s o ne (λ k. nb (sym turn_o ∙ k) j) ∙ turn_o))))
+                | inr nj ↦ e ∙ (ap (past f s o) i ∙ (past_s f s o nj ∙ sym (leave_else t₁ o x nt (λ k. nj (sym w ∙ k)) ∙ w)))
+              ]
+          | inr ni ↦
+              let w = leave_else (turn f) s x ns ni in
+              elim (cases_eq (turn f x) o) [
+                | inl j ↦ e ∙ (ap (past f s o) j ∙ sym (leave_past t₁ o x nt (w ∙ j) ∙ at_o))
+                | inr nj ↦ e ∙ (past_else f s o (turn f x) ni nj ∙ sym (leave_else t₁ o x nt (λ k. nj (sym w ∙ k)) ∙ w))
+              ]
+        ]
+
+    pub turn_free : (k : ℕ) → k < n → (k ≡ s → ⊥) → (k ≡ o → ⊥) → ring (turn h) n k ≡ without o (without s (ring (turn f) n k))
+    turn_free k l ns nt =
+        let r₁ = ringed_out (turn f) t₁ n s tr ls s_on (λ j _. refl) in
+        let r₂ = ringed_out t₁ t₂ n o r₁ lo o_on (λ j _. refl) in
+        let w = ring_out t₁ t₂ n o r₁ lo o_on (λ j _. refl) k l nt ∙ ap (without o) (ring_out (turn f) t₁ n s tr ls s_on (λ j _. refl) k l ns) in
+        let xs = ring (turn f) n k in
+        ring_from t₂ (turn h) n n k r₂ l (omega arith)
+        (λ x m.
+        let b = ltb-true 0 (occ x (ring t₂ n k)) m in
+        passed_by x (meets_low t₂ n k x r₂ l m) (λ e. omega (arith, b, ap (occ x) w, without_most o x (without s xs), ap (λ (j : ℕ). occ j (without s xs)) e, without_none s xs))
+        (λ e. omega (arith, b, ap (occ x) w, ap (λ (j : ℕ). occ j (without o (without s xs))) e, without_none o (without s xs))))
+        ∙ w
 
     -- the arc has a node of its own, the other sides keep theirs
     module _ (node lab : ℕ → ℕ) (closes : Closes f node n) (own : lab o ≡ lab s) (same : (k : ℕ) → k < n → (k ≡ s → ⊥) → (k ≡ o → ⊥) → lab k ≡ node k) where

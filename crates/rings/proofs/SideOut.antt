@@ -5,7 +5,7 @@ use Rattle.rings.specs.Circles.{one_if, occ, Chain, Circles, Exchanged, names, r
 use Rattle.rings.specs.Law.{Ringed, Along}
 use Rattle.rings.specs.Edits.{leave}
 use Rattle.rings.specs.LetIn.{without}
-use Rattle.rings.proofs.Occurs.{one_same, one_most, one_below, below_one}
+use Rattle.rings.proofs.Occurs.{one_same, one_other, one_most, one_below, below_one}
 use Rattle.rings.proofs.Chains.{picked}
 use Rattle.rings.proofs.Surgery.{InOne, in_one, cut, names_from}
 use Rattle.rings.proofs.Listing.{ring_is, listed}
@@ -21,12 +21,20 @@ without_here t x xs e = cond-true (eqb x t) (without t xs) (x ∷ without t xs) 
 pub without_other : (t x : ℕ) (xs : List ℕ) → (x ≡ t → ⊥) → without t (x ∷ xs) ≡ x ∷ without t xs
 without_other t x xs ne = cond-false (eqb x t) (without t xs) (x ∷ without t xs) (ne_eqb x t ne)
 
-without_most : (t k : ℕ) (xs : List ℕ) → occ k (without t xs) ≤ occ k xs
+pub without_most : (t k : ℕ) (xs : List ℕ) → occ k (without t xs) ≤ occ k xs
 without_most t k [] = omega arith
 without_most t k (x ∷ xs) =
     elim (cases_eq x t) [
       | inl e ↦ omega (arith, ap (occ k) (without_here t x xs e), without_most t k xs)
       | inr ne ↦ omega (arith, ap (occ k) (without_other t x xs ne), without_most t k xs)
+    ]
+
+pub without_none : (t : ℕ) (xs : List ℕ) → occ t (without t xs) ≡ 0
+without_none t [] = refl
+without_none t (x ∷ xs) =
+    elim (cases_eq x t) [
+      | inl e ↦ ap (occ t) (without_here t x xs e) ∙ without_none t xs
+      | inr ne ↦ omega (arith, ap (occ t) (without_other t x xs ne), one_other t x (λ e. ne (sym e)), without_none t xs)
     ]
 
 module _ (f : ℕ → ℕ) (t : ℕ) where

@@ -27,7 +27,7 @@ label_top : (lab : ℕ → ℕ) (n s o : ℕ) → split_polygon lab n s o (suc n
 label_top lab n s o = grind (arith, nat_tests)
 
 -- a chain with members let in
-chain_let_in : (f g : ℕ → ℕ) (after : ℕ → List ℕ) (p q : ℕ) (xs : List ℕ) → ((x : ℕ) → 0 < occ x (p ∷ xs) → Chain g x (after x) (f x)) → Chain f p xs q →
+pub chain_let_in : (f g : ℕ → ℕ) (after : ℕ → List ℕ) (p q : ℕ) (xs : List ℕ) → ((x : ℕ) → 0 < occ x (p ∷ xs) → Chain g x (after x) (f x)) → Chain f p xs q →
     Chain g p (after p ++ let_in after xs) q
 chain_let_in f g after p q [] h c = subst (λ (ys : List ℕ). Chain g p ys q) (sym (append-nil (after p))) (subst (λ (y : ℕ). Chain g p (after p) y) c (h p (omega (arith, one_same p))))
 chain_let_in f g after p q (x ∷ xs) h c =
@@ -35,7 +35,7 @@ chain_let_in f g after p q (x ∷ xs) h c =
     (chain_let_in f g after x q xs (λ y l. h y (omega arith)) c.1)
 
 -- something in a chain leads to its end
-chain_end : (f : ℕ → ℕ) (p q : ℕ) (xs : List ℕ) → Chain f p xs q → (x : ℕ) × (0 < occ x (p ∷ xs)) × (f x ≡ q)
+pub chain_end : (f : ℕ → ℕ) (p q : ℕ) (xs : List ℕ) → Chain f p xs q → (x : ℕ) × (0 < occ x (p ∷ xs)) × (f x ≡ q)
 chain_end f p q [] c = (p, omega (arith, one_same p), c)
 chain_end f p q (y ∷ xs) c =
     let r : (x : ℕ) × (0 < occ x (y ∷ xs)) × (f x ≡ q) = chain_end f y q xs c.1 in
@@ -125,6 +125,26 @@ module _ (f : ℕ → ℕ) (n s o p : ℕ) where
   let_in_top (x ∷ xs) i e =
       omega (arith, occ_append (suc n) (split_after f n s o x) (let_in (split_after f n s o) xs), after_top x (i x (omega (arith, one_same x))) e, let_in_top xs (λ y l. i y (omega arith)) e)
 
+-- .. once each
+pub let_in_few : (f : ℕ → ℕ) (n s o p : ℕ) → s < n → p < n → f p ≡ o → (xs : List ℕ) → ((k : ℕ) → occ k xs ≤ one_if (ltb k n)) → ((y : ℕ) → 0 < occ y xs → f y ≡ o → y ≡ p) →
+    (k : ℕ) → occ k (let_in (split_after f n s o) xs) ≤ one_if (ltb k (n + 2))
+let_in_few f n s o p ls lp e xs few i k =
+    let after = split_after f n s o in
+    elim (cases_eq k n) [
+      | inl q ↦
+          omega (arith, ap (λ (j : ℕ). occ j (let_in after xs)) q, let_in_new f n s o p xs, few n, few s, one_past n n (omega arith), one_most (ltb s n), one_below k (n + 2) (omega arith))
+      | inr nq ↦
+          elim (cases_eq k (suc n)) [
+            | inl q ↦
+                omega (arith, ap (λ (j : ℕ). occ j (let_in after xs)) q, let_in_top f n s o p xs i e, few (suc n), few p, one_past (suc n) n (omega arith), one_most (ltb p n), one_below k (n + 2) (omega arith))
+            | inr nq' ↦
+                elim (cases_lt k n) [
+                  | inl l ↦ omega (arith, let_in_other f n s o p k xs nq nq', few k, one_most (ltb k n), one_below k (n + 2) (omega arith))
+                  | inr g ↦ omega (arith, let_in_other f n s o p k xs nq nq', few k, one_past k n g)
+                ]
+          ]
+    ]
+
 module _ (f : ℕ → ℕ) (n s p : ℕ) (even : n % 2 ≡ 0) (r : Ringed f n) (ls : s < n) (lp : p < n) (e : f p ≡ opp s) where
   abbrev o : ℕ
   o = opp s
@@ -199,25 +219,8 @@ module _ (f : ℕ → ℕ) (n s p : ℕ) (even : n % 2 ≡ 0) (r : Ringed f n) (
       let w : ring f n x ≡ xs = ring_is f n x t.loop t.closed few in
       let inside : (y : ℕ) → 0 < occ y xs → y < n = λ y h. below_one y n (omega (arith, few y)) in
       ring_is g (n + 2) x (after x ++ let_in after t.loop) (chain_let_in f g after x x t.loop (λ y h. through y (inside y h)) t.closed)
-      (counted xs few (λ y h i. inj y p (inside y h) lp (i ∙ sym e)))
+      (let_in_few f n s o p ls lp e xs few (λ y h i. inj y p (inside y h) lp (i ∙ sym e)))
       ∙ ap (let_in after) (sym w)
-    where
-      counted : (xs : List ℕ) → ((k : ℕ) → occ k xs ≤ one_if (ltb k n)) → ((y : ℕ) → 0 < occ y xs → f y ≡ o → y ≡ p) → (k : ℕ) → occ k (let_in after xs) ≤ one_if (ltb k (n + 2))
-      counted xs few i k =
-          elim (cases_eq k n) [
-            | inl q ↦
-                omega (arith, ap (λ (j : ℕ). occ j (let_in after xs)) q, let_in_new f n s o p xs, few n, few s, one_past n n (omega arith), one_most (ltb s n), one_below k (n + 2) (omega arith))
-            | inr nq ↦
-                elim (cases_eq k (suc n)) [
-                  | inl q ↦
-                      omega (arith, ap (λ (j : ℕ). occ j (let_in after xs)) q, let_in_top f n s o p xs i e, few (suc n), few p, one_past (suc n) n (omega arith), one_most (ltb p n), one_below k (n + 2) (omega arith))
-                  | inr nq' ↦
-                      elim (cases_lt k n) [
-                        | inl l ↦ omega (arith, let_in_other f n s o p k xs nq nq', few k, one_most (ltb k n), one_below k (n + 2) (omega arith))
-                        | inr g ↦ omega (arith, let_in_other f n s o p k xs nq nq', few k, one_past k n g)
-                      ]
-                ]
-          ]
 
   module _ (lows : ℕ → ℕ) (along : LowAlong f lows n) (below : LowBelow lows n) (named : LowNames f lows n) where
     abbrev lows' : ℕ → ℕ

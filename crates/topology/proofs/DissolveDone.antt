@@ -1,8 +1,10 @@
 -- A map whose table of sides has lost those of an arc between two rings.
-use Rattle.std.proofs.Common.{◌≡◌, ℕ, suc, ◌+◌, ◌-◌, ◌/◌, ◌<◌, ◌≤◌, false, ◌&&◌, ◌||◌, ltb, List, length, get_or, take, drop, Ok, Err, sym, refl, ap, ◌∙◌, subst, arith}
-use Rattle.std.proofs.lemmas.Bool.{lt-ltb, cond-true, cond-false}
+use Rattle.std.proofs.Common.{◌≡◌, ℕ, suc, ◌+◌, ◌-◌, ◌/◌, ◌<◌, ◌≤◌, false, ◌&&◌, ◌||◌, ltb, List, length, get_or, take, drop, Ok, Err, sym, refl, ap, ◌∙◌, subst, arith, ◌++◌, Bool, true, map}
+use Rattle.std.proofs.lemmas.Bool.{lt-ltb, cond-true, cond-false, false≢true}
 use Rattle.refusal.specs.declared.Refusal.TheVariants.{NoSuchElement, SidesShareRing, RingsAlone}
-use Rattle.rings.specs.Circles.{rings, meets}
+use Rattle.rings.specs.Circles.{walk, ring, rings, meets}
+use Rattle.rings.specs.Law.{turn}
+use Rattle.rings.specs.LetIn.{without}
 use Rattle.rings.specs.Edits.{exchanged}
 use Rattle.topology.specs.declared.side.Side.{Side}
 use Rattle.topology.specs.declared.vertex.Vertex.{Vertex}
@@ -19,7 +21,11 @@ use Rattle.std.proofs.lemmas.List.{length-set, length-map, length-take-le}
 use Rattle.topology.proofs.Growth.{held_used}
 use Rattle.topology.proofs.Assembling.{lawful_at, lawful_of, state_from}
 use Rattle.topology.proofs.TakenOut.{sides_are, used_are, length_are, rows_long, rest_are, lent_are}
-use Rattle.topology.proofs.DissolveLaw.{dissolve_lawful, dissolve_rings, dissolve_meets, node_room}
+use Rattle.topology.proofs.DissolveLaw.{dissolve_lawful, dissolve_rings, dissolve_meets, dissolve_ring, dissolve_others, dissolve_turns, node_room}
+
+neither : (b d : Bool) → (b || d) ≡ false → (b ≡ false) × (d ≡ false)
+neither true d e = absurd (false≢true (sym e))
+neither false d e = (refl, e)
 
 free_long : (us : List Side) (node a : ℕ) → length (freed us node a) ≡ length us
 free_long us node a = simp (length-set, length-map) refl
@@ -141,6 +147,24 @@ module _ (m : Map) (a : ℕ) (here : a < arc_count (state_of m)) (apart : share_
           meets (next_of us) n (exchanged a z k) (exchanged a z i)
           || ((meets (next_of us) n (a + a) (exchanged a z k) || meets (next_of us) n (a + a + 1) (exchanged a z k))
           && (meets (next_of us) n (a + a) (exchanged a z i) || meets (next_of us) n (a + a + 1) (exchanged a z i)))) (sym two_more)));
+      one_ring = λ x xs e.
+          ap (λ (j : ℕ). ring (next_of (take w.used w.rows.now)) j (exchanged a z x)) length₂
+          ∙ (ap (λ (w : List Side). ring (next_of w) (z + z) (exchanged a z x)) sides_now
+          ∙ dissolve_ring us vs m.nodes m.polygons z a two_more low L apart some x xs
+          (sym (ap (λ (n : ℕ). walk (next_of us) n (a + a) (a + a) ++ walk (next_of us) n (a + a + 1) (a + a + 1)) two_more) ∙ e));
+      others_stay = λ k l e.
+          let (x, y) = neither (meets (next_of us) (length us) (a + a) (exchanged a z k)) (meets (next_of us) (length us) (a + a + 1) (exchanged a z k)) e in
+          ap (λ (j : ℕ). ring (next_of (take w.used w.rows.now)) j k) length₂
+          ∙ (ap (λ (w : List Side). ring (next_of w) (z + z) k) sides_now
+          ∙ (dissolve_others us vs m.nodes m.polygons z a two_more low L apart some k (omega (arith, l, length₂))
+          (sym (ap (λ (n : ℕ). meets (next_of us) n (a + a) (exchanged a z k)) two_more) ∙ x)
+          (sym (ap (λ (n : ℕ). meets (next_of us) n (a + a + 1) (exchanged a z k)) two_more) ∙ y)
+          ∙ ap (λ (n : ℕ). map (exchanged a z) (ring (next_of us) n (exchanged a z k))) (sym two_more)));
+      turns = λ k l.
+          ap (λ (j : ℕ). ring (turn (next_of (take w.used w.rows.now))) j k) length₂
+          ∙ (ap (λ (w : List Side). ring (turn (next_of w)) (z + z) k) sides_now
+          ∙ (dissolve_turns us vs m.nodes m.polygons z a two_more low L apart some k (omega (arith, l, length₂))
+          ∙ ap (λ (n : ℕ). map (exchanged a z) (without (a + a + 1) (without (a + a) (ring (turn (next_of us)) n (exchanged a z k))))) (sym two_more)));
     }
 
     -- nodes + rings - arcs is as it was

@@ -1,7 +1,13 @@
 -- A dissolve keeps the law, and two rings become one.
-use Rattle.std.proofs.Common.{◌≡◌, ℕ, suc, ◌+◌, ◌-◌, ◌<◌, ◌≤◌, true, false, ◌&&◌, ◌||◌, List, map, length, get_or, sym, ap, ◌∙◌, subst, arith}
+use Rattle.std.proofs.Common.{◌≡◌, ℕ, suc, ◌+◌, ◌-◌, ◌<◌, ◌≤◌, true, false, ◌&&◌, ◌||◌, List, map, length, get_or, sym, ap, ◌∙◌, subst, arith, ◌∷◌, ◌++◌, inl, inr}
+use Rattle.std.proofs.lemmas.Bool.{cases_eq, cases_lt}
 use Rattle.std.proofs.lemmas.Bool.Decides.{nat_tests}
-use Rattle.rings.specs.Circles.{rings, meets}
+use Rattle.rings.specs.Circles.{walk, ring, rings, meets}
+use Rattle.rings.specs.Law.{opp, turn}
+use Rattle.rings.specs.LetIn.{without}
+use Rattle.rings.proofs.Renamed.{ring_renamed}
+use Rattle.rings.proofs.Split.{opp_low}
+use Rattle.rings.proofs.Exchange.{exchanged_twice, exchanged_opp, exchanged_last_unturned, exchanged_last_turned}
 use Rattle.rings.specs.Edits.{exchanged, fill}
 use Rattle.rings.proofs.LastOut.{meets_less}
 use Rattle.topology.specs.declared.side.Side.{Side}
@@ -12,7 +18,7 @@ use Rattle.topology.specs.Lawfuls.{Lawful}
 use Rattle.topology.specs.Lifts.{closed_alone, ring_left, lifted_sides, polygons_left}
 use Rattle.topology.specs.Dissolves.{share_ring, both_alone, freed}
 use Rattle.topology.proofs.LiftLaw.{lift_lawful, lift_rings, σ-low, not_gone, row_is, next_is, node_is}
-use Rattle.topology.proofs.FreedLaw.{freed_lawful, freed_alone, freed_left, freed_long, freed_meets, vertices_long, at_s, at_o, in_rings₁, in_turns₁, count₁, node_else, row_same, row_s}
+use Rattle.topology.proofs.FreedLaw.{freed_lawful, freed_alone, freed_left, freed_long, freed_meets, vertices_long, at_s, at_o, in_rings₁, in_turns₁, count₁, node_else, row_same, row_s, freed_first, freed_ring, freed_other, freed_turn}
 
 pub fill_itself : (n m x : ℕ) → n ≡ m → fill n m x ≡ x
 fill_itself n m x e = grind (arith, nat_tests)
@@ -125,3 +131,47 @@ module _ (us : List Side) (vs : List Vertex) (nodes polygons z a : ℕ) (long : 
       meets_less (next_of us₁) z a here (in_rings₁ us vs nodes polygons z a long here L apart some) (in_turns₁ us vs nodes polygons z a long here L apart some)
       (at_s us vs nodes polygons z a long here L apart some) (at_o us vs nodes polygons z a long here L apart some) (next_of us₂) (next_is us₁ vs₁ (nodes + 1) polygons z a long₁ here L₁ alone₁ left₁) k t lk
       ∙ freed_meets us vs nodes polygons z a long here L apart some (σ k) (σ t) (low k (omega arith)) (low t (omega arith)) ks ko ts to
+
+  -- ---- the rings and the turns, as lists
+
+  abbrev h : ℕ → ℕ
+  h = next_of us₁
+
+  leads₂ : (k : ℕ) → k < m → h (σ k) ≡ σ (next_of us₂ k)
+  leads₂ k l = sym (ap σ (next_is us₁ vs₁ (nodes + 1) polygons z a long₁ here L₁ alone₁ left₁ k l) ∙ exchanged_twice a z (h (σ k)))
+
+  low₂ : (k : ℕ) → k < m → σ k < N
+  low₂ k l = low k (omega arith)
+
+  pub ring₂ : (k : ℕ) → k < m → ring (next_of us₂) m k ≡ map σ (ring h N (σ k))
+  ring₂ k l = ring_renamed σ σ h (next_of us₂) N m low₂ (λ j _. exchanged_twice a z j) leads₂ L₂.in_rings k l
+
+  stays_below : (x : ℕ) → x < N → (x ≡ a + a → ⊥) → (x ≡ a + a + 1 → ⊥) → σ x < m
+  stays_below x l ns nt =
+      elim (cases_lt (σ x) m) [
+        | inl i ↦ i
+        | inr i ↦
+            elim (cases_eq (σ x) (z + z)) [
+              | inl e ↦ absurd (ns (sym (exchanged_twice a z x) ∙ (ap σ e ∙ exchanged_last_unturned a z)))
+              | inr n ↦
+                  let e : σ x ≡ z + z + 1 = omega (arith, low x l) in
+                  absurd (nt (sym (exchanged_twice a z x) ∙ (ap σ e ∙ exchanged_last_turned a z)))
+            ]
+      ]
+
+  pub dissolve_ring : (x : ℕ) (xs : List ℕ) → walk (next_of us) N (a + a) (a + a) ++ walk (next_of us) N (a + a + 1) (a + a + 1) ≡ x ∷ xs →
+      ring (next_of us₂) m (σ x) ≡ map σ (x ∷ xs)
+  dissolve_ring x xs e =
+      let (lx, ns, nt) = freed_first us vs nodes polygons z a long here L apart some x xs e in
+      ring₂ (σ x) (stays_below x lx ns nt) ∙ (ap (λ (y : ℕ). map σ (ring h N y)) (exchanged_twice a z x) ∙ ap (map σ) (freed_ring us vs nodes polygons z a long here L apart some x xs e))
+
+  pub dissolve_others : (k : ℕ) → k < m → meets (next_of us) N (a + a) (σ k) ≡ false → meets (next_of us) N (a + a + 1) (σ k) ≡ false →
+      ring (next_of us₂) m k ≡ map σ (ring (next_of us) N (σ k))
+  dissolve_others k l ms mo = ring₂ k l ∙ ap (map σ) (freed_other us vs nodes polygons z a long here L apart some (σ k) (low₂ k l) ms mo)
+
+  pub dissolve_turns : (k : ℕ) → k < m → ring (turn (next_of us₂)) m k ≡ map σ (without (a + a + 1) (without (a + a) (ring (turn (next_of us)) N (σ k))))
+  dissolve_turns k l =
+      let (ns, nt) = other k l in
+      ring_renamed σ σ (turn h) (turn (next_of us₂)) N m low₂ (λ j _. exchanged_twice a z j)
+      (λ j i. ap h (exchanged_opp a z j) ∙ leads₂ (opp j) (opp_low m j (omega arith) i)) L₂.in_turns k l
+      ∙ ap (map σ) (freed_turn us vs nodes polygons z a long here L apart some (σ k) (low₂ k l) ns nt)

@@ -1,9 +1,11 @@
 -- A map in which a ring is divided.
-use Rattle.std.proofs.Common.{◌≡◌, ℕ, suc, ◌+◌, ◌-◌, ◌/◌, ◌<◌, ◌≤◌, true, false, ◌&&◌, ltb, ◌⊎◌, List, ◌++◌, length, get_or, take, drop, Ok, Err, sym, refl, ap, ◌∙◌, subst, inl, inr, add-one, arith}
+use Rattle.std.proofs.Common.{◌≡◌, ℕ, suc, ◌+◌, ◌-◌, ◌/◌, ◌<◌, ◌≤◌, true, false, ◌&&◌, ltb, ◌⊎◌, List, ◌++◌, length, get_or, take, drop, Ok, Err, sym, refl, ap, ◌∙◌, subst, inl, inr, add-one, arith, [], ◌∷◌, cond, eqb}
 use Rattle.std.proofs.lemmas.Bool.{and_parts, and_from, lt-ltb, cond-true}
 use Rattle.std.proofs.lemmas.List.{length-take-le, get_or-take}
 use Rattle.refusal.specs.declared.Refusal.TheVariants.{NoSuchElement, SidesInTwoRings, UnfitRun, RunEndsElsewhere, NoRoom}
-use Rattle.rings.specs.Circles.{one_if, ring, rings, meets}
+use Rattle.rings.specs.Circles.{one_if, walk, ring, rings, meets}
+use Rattle.rings.specs.Law.{turn}
+use Rattle.rings.specs.LetIn.{let_in, divide_after}
 use Rattle.rings.specs.Law.{Ringed}
 use Rattle.rings.proofs.TwoRings.{came_before}
 use Rattle.topology.specs.declared.side.Side.{Side}
@@ -23,7 +25,7 @@ use Rattle.topology.specs.Divisions.{ring_told, linked, unturned_polygon, turned
 use Rattle.topology.proofs.Growth.{held_used, grown_used}
 use Rattle.topology.proofs.Assembling.{lawful_at, lawful_of, state_from, room_told}
 use Rattle.topology.proofs.RingTold.{told_long, told_else}
-use Rattle.topology.proofs.DivideLaw.{linked_long, linked_rings, next', long', rings_more, two_apart, in_just_one, other_rings, divide_lawful}
+use Rattle.topology.proofs.DivideLaw.{linked_long, linked_rings, next', long', rings_more, two_apart, in_just_one, other_rings, unturned_list, turned_list, turn_list, divide_lawful}
 
 -- ---- tables
 
@@ -176,7 +178,7 @@ module _ (d : Division) where
       subst (λ (z : ℕ → ℕ). P z (length us') (n + 1)) (sym same_next)
       (subst (λ (k : ℕ). P (next_of xs) k (n + 1)) (sym so_long) (subst (P (next_of xs) (n + 2)) (sym (add-one n)) h))
 
-  pub divide_rings : RingDivided (state_of m) (divided (state_of m) first second run named) first
+  pub divide_rings : RingDivided (state_of m) (divided (state_of m) first second run named) first second
   divide_rings = record {
     one_more =
         moved (λ z k t. length (rings z k) ≡ length (rings f n) + 1)
@@ -190,6 +192,15 @@ module _ (d : Division) where
     others_stay = λ j l h.
         moved (λ z k t. ring z k j ≡ ring f n j)
         (other_rings us vs run m.nodes m.polygons first second p.0 q.0 pu pt L first_in second_in p.1 q.1 p.2 q.2 share j l h);
+    unturned_ring =
+        moved (λ z k t. ring z k n ≡ n ∷ second ∷ walk f n first second)
+        (unturned_list us vs run m.nodes m.polygons first second p.0 q.0 pu pt L first_in second_in p.1 q.1 p.2 q.2 share);
+    turned_ring =
+        moved (λ z k t. ring z k (suc n) ≡ suc n ∷ cond (eqb first second) [] (first ∷ walk f n second first))
+        (turned_list us vs run m.nodes m.polygons first second p.0 q.0 pu pt L first_in second_in p.1 q.1 p.2 q.2 share);
+    turns = λ j l.
+        moved (λ z k t. ring (turn z) k j ≡ let_in (divide_after (turn f) n first second) (ring (turn f) n j))
+        (turn_list us vs run m.nodes m.polygons first second p.0 q.0 pu pt L first_in second_in p.1 q.1 p.2 q.2 share j l);
   }
 
   pub divide_sum : Rises 0 (state_of m) (divided (state_of m) first second run named)

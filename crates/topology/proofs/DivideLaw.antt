@@ -3,6 +3,8 @@ use Rattle.std.proofs.Common.{◌≡◌, ℕ, suc, ◌+◌, ◌-◌, ◌<◌, �
 use mathlib.Core.Path.{fun_ext}
 use Rattle.std.proofs.lemmas.Bool.{cases_eq, cases_lt, cases_Bool, and_parts, leb-true, lt-ltb, eq-eqb, ne_eqb, ltb-true, cond-true, cond-false}
 use Rattle.std.proofs.lemmas.List.{get_or_append_left, get_or-append_right, get_or_past, get_or-map, length-append, length-map}
+use Rattle.rings.specs.LetIn.{let_in, divide_after}
+use Rattle.rings.proofs.DivideRings.{unturned_ring, turned_ring, turn_divided}
 use Rattle.rings.specs.Circles.{one_if, occ, names, put, ring, rings, walk, meets, Divided}
 use Rattle.rings.specs.Law.{turn, Ringed, Closes, Along, Noded}
 use Rattle.rings.specs.Edits.{divide_next, divide_node}
@@ -191,6 +193,26 @@ module _ (us : List Side) (vs run : List Vertex) (nodes polygons first second p 
 
   pub linked_rings : Ringed g N
   linked_rings = subst (λ (h : ℕ → ℕ). Ringed h N) (sym next_is) K.ringed
+
+  -- the rings and the turns, as lists
+  in_one_ring : (f q ≡ f p → ⊥) → meets f m (f q) (f p) ≡ true
+  in_one_ring _ =
+      let c = ringed_circles f m L.in_rings in
+      meets_next f m (rings f m) c (f q) p (within f m (rings f m) c q lq) lp
+      ∙ (ring_same f m p (f q) L.in_rings lp (meets_next f m (rings f m) c p q lp lq ∙ p_q) p ∙ meets_self f m p)
+
+  pub unturned_list : ring g N m ≡ m ∷ second ∷ walk f m first second
+  unturned_list = unturned_ring f g m p q L.in_rings lp lq D in_one_ring ∙ (ap (λ (x : ℕ). m ∷ x ∷ walk f m (f p) x) fq ∙ ap (λ (x : ℕ). m ∷ second ∷ walk f m x second) fp)
+
+  pub turned_list : ring g N (suc m) ≡ suc m ∷ cond (eqb first second) [] (first ∷ walk f m second first)
+  turned_list =
+      turned_ring f g m p q L.in_rings lp lq D in_one_ring
+      ∙ (ap (λ (x : ℕ). suc m ∷ cond (eqb (f p) x) [] (f p ∷ walk f m x (f p))) fq ∙ ap (λ (x : ℕ). suc m ∷ cond (eqb x second) [] (x ∷ walk f m second x)) fp)
+
+  pub turn_list : (k : ℕ) → k < m → ring (turn g) N k ≡ let_in (divide_after (turn f) m first second) (ring (turn f) m k)
+  turn_list k l =
+      turn_divided f g m p q L.in_rings lp lq D L.paired L.in_turns k l
+      ∙ (ap (λ (x : ℕ). let_in (divide_after (turn f) m x (f q)) (ring (turn f) m k)) fp ∙ ap (λ (x : ℕ). let_in (divide_after (turn f) m first x) (ring (turn f) m k)) fq)
 
   -- ---- the rows told
 

@@ -1,9 +1,10 @@
 -- An arc that has left both its rings and has a node of its own: the law.
-use Rattle.std.proofs.Common.{◌≡◌, ℕ, zero, suc, ◌+◌, ◌/◌, ◌%◌, ◌<◌, ◌≤◌, Bool, true, false, cond, not, ◌&&◌, ◌||◌, eqb, ◌⊎◌, List, map, length, get_or, set, sym, refl, ap, ◌∙◌, subst, inl, inr, arith, min}
+use Rattle.std.proofs.Common.{◌≡◌, ℕ, zero, suc, ◌+◌, ◌/◌, ◌%◌, ◌<◌, ◌≤◌, Bool, true, false, cond, not, ◌&&◌, ◌||◌, eqb, ◌⊎◌, List, map, length, get_or, set, sym, refl, ap, ◌∙◌, subst, inl, inr, arith, min, ◌∷◌, ◌++◌}
 use Rattle.std.proofs.Math.Bool.{or-false}
 use Rattle.std.proofs.lemmas.Bool.{cases_eq, cases_lt, cases_Bool, eq-eqb, ne_eqb, eqb-true, and_parts, and_from, or_cases, or_left, or_right, or_from, not_from_true, not_from_false, cond-true, cond-false, both_ways}
 use Rattle.std.proofs.lemmas.List.{get_or-map, get_or-set_same, get_or-set_other, length-set, length-map}
-use Rattle.rings.specs.Circles.{occ, names, rings, meets}
+use Rattle.rings.specs.Circles.{occ, names, walk, ring, rings, meets}
+use Rattle.rings.specs.LetIn.{without}
 use Rattle.rings.specs.Law.{opp, turn, Ringed}
 use Rattle.rings.proofs.Ringed.{ringed_circles}
 use Rattle.rings.proofs.Closed.{within}
@@ -13,7 +14,7 @@ use Rattle.rings.proofs.SameLow.{meets_low}
 use Rattle.rings.proofs.Division.{same_ring}
 use Rattle.rings.proofs.Words.{some_circle}
 use Rattle.rings.proofs.Labels.{few_labels, label_there}
-use Rattle.rings.proofs.SetFree.{past, not_so, not_os, ringed_free, count_free, along_free, low_along_free, low_names_free, turned_free, closes_free, noded_free}
+use Rattle.rings.proofs.SetFree.{past, not_so, not_os, ringed_free, count_free, along_free, low_along_free, low_names_free, turned_free, closes_free, noded_free, first_there, one_ring, other_ring, turn_free}
 use Rattle.topology.specs.declared.side.Side.{Side}
 use Rattle.topology.specs.declared.vertex.Vertex.{Vertex}
 use Rattle.topology.specs.declared.merging.Merging.{Merging}
@@ -463,3 +464,16 @@ module _ (us : List Side) (vs : List Vertex) (nodes polygons z a : ℕ) (long : 
       not_x k l ms mt e =
           let b : low x ≡ low k = ap low (sym e) ∙ (low_told f low N L.in_rings L.low_along L.low_names k l).1 in
           elim x_in [ inl i ↦ ms (sym b ∙ i) | inr i ↦ mt (sym b ∙ i) ]
+
+  -- the rings and the turns, as lists
+  pub freed_first : (x : ℕ) (xs : List ℕ) → walk f N s s ++ walk f N o o ≡ x ∷ xs → (x < N) × (x ≡ s → ⊥) × (x ≡ o → ⊥)
+  freed_first = first_there f h N s o L.in_rings ls lo ne apart_f not_both at_s at_o at_else
+
+  pub freed_ring : (x : ℕ) (xs : List ℕ) → walk f N s s ++ walk f N o o ≡ x ∷ xs → ring h N x ≡ x ∷ xs
+  freed_ring = one_ring f h N s o L.in_rings ls lo ne apart_f not_both at_s at_o at_else
+
+  pub freed_other : (k : ℕ) → k < N → meets f N s k ≡ false → meets f N o k ≡ false → ring h N k ≡ ring f N k
+  freed_other = other_ring f h N s o L.in_rings ls lo ne apart_f not_both at_s at_o at_else
+
+  pub freed_turn : (k : ℕ) → k < N → (k ≡ s → ⊥) → (k ≡ o → ⊥) → ring (turn h) N k ≡ without o (without s (ring (turn f) N k))
+  freed_turn = turn_free f h N s o L.in_rings ls lo ne apart_f not_both at_s at_o at_else even opp_s opp_o L.in_turns

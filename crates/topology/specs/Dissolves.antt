@@ -1,8 +1,10 @@
 -- Dissolve: an arc goes, and the two rings of its sides become one.
-use Rattle.std.specs.Prelude.{◌≡◌, ℕ, zero, suc, ◌+◌, ◌-◌, ◌/◌, ◌<◌, Bool, cond, not, ◌&&◌, ◌||◌, List, map, length, Ok, Err, Result, ◌==◌, ◌≢◌, nat_lt, slice_index_or, slice_set, min}
+use Rattle.std.specs.Prelude.{◌≡◌, ℕ, zero, suc, ◌+◌, ◌-◌, ◌/◌, ◌<◌, Bool, false, cond, not, ◌&&◌, ◌||◌, List, ◌∷◌, ◌++◌, map, length, Ok, Err, Result, ◌==◌, ◌≢◌, nat_lt, slice_index_or, slice_set, min}
 use Rattle.refusal.specs.declared.Refusal.{Refusal}
 use Rattle.refusal.specs.declared.Refusal.TheVariants.{NoSuchElement, SidesShareRing, RingsAlone}
-use Rattle.rings.specs.Circles.{walk, meets}
+use Rattle.rings.specs.Circles.{walk, ring, meets}
+use Rattle.rings.specs.Law.{turn}
+use Rattle.rings.specs.LetIn.{without}
 use Rattle.rings.specs.Edits.{exchanged}
 use Rattle.topology.specs.declared.side.Side.{Side}
 use Rattle.topology.specs.declared.table.Table.{Table}
@@ -88,12 +90,25 @@ beside m a s = together m (a + a) s || together m (a + a + 1) s
 abbrev pub number_before : State → ℕ → ℕ → ℕ
 number_before was a s = exchanged a (arc_count was - 1) s
 
--- there is one ring fewer: two sides stand in one ring now exactly if they did before, or if each stood in the ring of one of arc a's sides
+-- the sides that come after s in its ring
+abbrev pub sides_after : State → ℕ → List ℕ
+sides_after m s = walk (next_of m.sides) (length m.sides) s s
+
+-- there is one ring fewer: two sides stand in one ring now exactly if they did before, or if each stood in the ring of one of arc a's sides;
+-- the one ring has the sides after one of them, then the sides after the other, and all other rings stand as they did; the turns stand as they
+-- did, without the two sides
 pub record RingsMerged (was is : State) (a : ℕ) : Type 0 where
   pub fewer : length (rings_of is) + 1 ≡ length (rings_of was)
   pub rings : (s t : ℕ) → s < length is.sides → t < length is.sides →
       together is s t
       ≡ (together was (number_before was a s) (number_before was a t) || (beside was a (number_before was a s) && beside was a (number_before was a t)))
+  pub one_ring : (x : ℕ) (xs : List ℕ) → sides_after was (a + a) ++ sides_after was (a + a + 1) ≡ x ∷ xs →
+      ring (next_of is.sides) (length is.sides) (number_before was a x) ≡ map (number_before was a) (x ∷ xs)
+  pub others_stay : (k : ℕ) → k < length is.sides → beside was a (number_before was a k) ≡ false →
+      ring (next_of is.sides) (length is.sides) k ≡ map (number_before was a) (ring (next_of was.sides) (length was.sides) (number_before was a k))
+  pub turns : (k : ℕ) → k < length is.sides →
+      ring (turn (next_of is.sides)) (length is.sides) k
+      ≡ map (number_before was a) (without (a + a + 1) (without (a + a) (ring (turn (next_of was.sides)) (length was.sides) (number_before was a k))))
 
 -- the first two free rows of a table are others
 pub record PutBack (was is : Table Side) (u v : Side) : Type 0 where

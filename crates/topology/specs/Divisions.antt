@@ -1,9 +1,11 @@
 -- Division: an arc between the starts of two sides of one ring makes two rings of it.
-use Rattle.std.specs.Prelude.{◌≡◌, ℕ, ◌+◌, ◌-◌, ◌<◌, Bool, false, cond, ◌&&◌, List, [], ◌∷◌, ◌++◌, map, length, Ok, Err, Result, ◌==◌, nat_le, nat_lt, slice_index_or, min, fold}
+use Rattle.std.specs.Prelude.{◌≡◌, ℕ, suc, ◌+◌, ◌-◌, ◌<◌, Bool, false, cond, ◌&&◌, List, [], ◌∷◌, ◌++◌, map, length, Ok, Err, Result, ◌==◌, nat_le, nat_lt, slice_index_or, min, fold}
 use Rattle.std.specs.List.{range_with_len}
 use Rattle.refusal.specs.declared.Refusal.{Refusal}
 use Rattle.refusal.specs.declared.Refusal.TheVariants.{NoSuchElement, SidesInTwoRings, UnfitRun, RunEndsElsewhere, NoRoom}
 use Rattle.rings.specs.Circles.{one_if, walk, ring, meets}
+use Rattle.rings.specs.Law.{turn}
+use Rattle.rings.specs.LetIn.{let_in, divide_after}
 use Rattle.topology.specs.declared.side.Side.{Side}
 use Rattle.topology.specs.declared.vertex.Vertex.{Vertex}
 use Rattle.topology.specs.declared.arc_side.ArcSide.{ArcSide}
@@ -112,14 +114,23 @@ divide_outcome m first second run named =
     (Err SidesInTwoRings))
     (Err NoSuchElement)
 
--- The ring of s becomes two: there is one ring more; the two sides of the new arc stand in two rings; each old side stands in just one of these if it
--- stood in the ring of s, and else in none; and all other rings stay as they were.
-pub record RingDivided (was is : State) (s : ℕ) : Type 0 where
+-- The ring of the two sides becomes two: there is one ring more; the two sides of the new arc stand in two rings; each old side stands in just one of
+-- these if it stood in the ring of the two, and else in none; and all other rings stay as they were. The new unturned side leads on to the second
+-- side and on up to what came before the first; the new turned one to the first and on up to what came before the second, and where both are
+-- one side it is alone. In the turns each new side stands before the side whose start it has.
+pub record RingDivided (was is : State) (first second : ℕ) : Type 0 where
   pub one_more : length (rings_of is) ≡ length (rings_of was) + 1
   pub apart : meets (next_of is.sides) (length is.sides) (length was.sides) (length was.sides + 1) ≡ false
   pub just_one : (k : ℕ) → k < length was.sides →
       one_if (meets (next_of is.sides) (length is.sides) (length was.sides) k)
       + one_if (meets (next_of is.sides) (length is.sides) (length was.sides + 1) k)
-      ≡ one_if (meets (next_of was.sides) (length was.sides) s k)
-  pub others_stay : (k : ℕ) → k < length was.sides → meets (next_of was.sides) (length was.sides) s k ≡ false →
+      ≡ one_if (meets (next_of was.sides) (length was.sides) first k)
+  pub others_stay : (k : ℕ) → k < length was.sides → meets (next_of was.sides) (length was.sides) first k ≡ false →
       ring (next_of is.sides) (length is.sides) k ≡ ring (next_of was.sides) (length was.sides) k
+  pub unturned_ring : ring (next_of is.sides) (length is.sides) (length was.sides)
+      ≡ length was.sides ∷ second ∷ walk (next_of was.sides) (length was.sides) first second
+  pub turned_ring : ring (next_of is.sides) (length is.sides) (suc (length was.sides))
+      ≡ suc (length was.sides) ∷ cond (first == second) [] (first ∷ walk (next_of was.sides) (length was.sides) second first)
+  pub turns : (k : ℕ) → k < length was.sides →
+      ring (turn (next_of is.sides)) (length is.sides) k
+      ≡ let_in (divide_after (turn (next_of was.sides)) (length was.sides) first second) (ring (turn (next_of was.sides)) (length was.sides) k)
