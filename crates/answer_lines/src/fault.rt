@@ -14,7 +14,7 @@ pub enum TextFault {
     ReadsOtherwise,
 }
 
-// Stays: `from_gives` says which fault comes of it, as the contracts of those who convert need, and `#[from]` writes a `From` that says nothing.
+// Stays: `#[from]` wants a field, which `NoMemory` has not, and says nothing of which fault comes. With a `map_err` at each of ten `?`, of which one is in `journal`, it is no plainer.
 impl From<AllocError> for TextFault {
     ghost from_gives = { λ _ fault. fault ≡ NoMemory };
 

@@ -31,25 +31,26 @@ divide_between a b m = divided_by a b m (vertex_at m a 0) (vertex_at m b 0)
 abbrev pub chord_outcome : Chord → State → Result State Refusal
 chord_outcome c m = followed (divide_between c.from c.to m) (λ s. dissolve_outcome s c.gone)
 
-abbrev pub chords_outcome : List Chord → State → Result State Refusal
-chords_outcome [] m = Ok m
-chords_outcome (c ∷ cs) m = followed (chord_outcome c m) (chords_outcome cs)
-
--- a sheet in tables of 32,768 sides and 131,072 vertices, with room for a run of 65,536 vertices, divided and dissolved
-abbrev pub chord_sheet : ℕ → List Place → List ℕ → List Chord → Result State Refusal
-chord_sheet islands places cuts chords = followed (sheet_outcome 65536 islands places cuts (blank Right 32768 131072)) (chords_outcome chords)
-
 -- a split, and then a join
 abbrev pub parting_outcome : Parting → State → Result State Refusal
 parting_outcome p m = followed (split_outcome m p.arc p.vertex) (λ s. join_outcome s p.node)
 
-abbrev pub partings_outcome : List Parting → State → Result State Refusal
-partings_outcome [] m = Ok m
-partings_outcome (p ∷ ps) m = followed (parting_outcome p m) (partings_outcome ps)
+-- one pair after the other, where `outcome` is what one of them does
+abbrev pub pairs_outcome : {X : Type 0} → (X → State → Result State Refusal) → List X → State → Result State Refusal
+pairs_outcome outcome [] m = Ok m
+pairs_outcome outcome (p ∷ ps) m = followed (outcome p m) (pairs_outcome outcome ps)
 
--- a sheet in the same tables, split and joined
+-- a sheet in tables of 32,768 sides and 131,072 vertices, with room for a run of 65,536 vertices, edited in pairs
+abbrev pub pair_sheet : {X : Type 0} → (X → State → Result State Refusal) → ℕ → List Place → List ℕ → List X → Result State Refusal
+pair_sheet outcome islands places cuts pairs = followed (sheet_outcome 65536 islands places cuts (blank Right 32768 131072)) (pairs_outcome outcome pairs)
+
+-- divided and dissolved
+abbrev pub chord_sheet : ℕ → List Place → List ℕ → List Chord → Result State Refusal
+chord_sheet = pair_sheet chord_outcome
+
+-- split and joined
 abbrev pub parted_sheet : ℕ → List Place → List ℕ → List Parting → Result State Refusal
-parted_sheet islands places cuts partings = followed (sheet_outcome 65536 islands places cuts (blank Right 32768 131072)) (partings_outcome partings)
+parted_sheet = pair_sheet parting_outcome
 
 -- what is told about the sides; where an edit is refused, nothing is
 abbrev pub sheet_told : List SideTold → Result State Refusal → List SideTold

@@ -9,6 +9,7 @@ use topology::map::Map;
 use topology::vertex::Vertex;
 
 /// A place, for a caller in another language.
+// Stays: the caller in C wants the layout of C, which `Vertex`, with the same two fields, does not promise.
 #[repr(C)]
 #[derive(Clone, Copy)]
 pub struct Place {
@@ -16,13 +17,14 @@ pub struct Place {
     pub y: f64,
 }
 
-// A vertex at a place.
-fn vertex_of(place: Place) -> Vertex
-    ensures { result ≡ vertex_of place }
-{
-    Vertex {
-        x: place.x,
-        y: place.y,
+impl From<Place> for Vertex {
+    ghost from_gives = { λ place vertex. vertex ≡ vertex_of place };
+
+    fn from(place: Place) -> Self {
+        Self {
+            x: place.x,
+            y: place.y,
+        }
     }
 }
 
@@ -31,8 +33,9 @@ fn put_vertices(places: &[Place], run: &mut [Vertex])
     requires { length run.old ≡ length places.now }
     ensures { run.new ≡ each vertex_of places.now }
 {
+    // Stays: tried, and the proof did not close: a zip of run.iter_mut() with the places leaves no fact about what was written to the run.
     for (k, place) in places.iter().enumerate() {
-        run[k] = vertex_of(*place);
+        run[k] = Vertex::from(*place);
     }
 }
 
@@ -55,6 +58,7 @@ fn add_islands(
 ) -> Result<(), Refusal>
     ensures { answered result (state_of map.new) ≡ islands_outcome 0 islands run.now cuts.now (state_of map.old) }
 {
+    // Stays: the polygons are numbers, and no slice is gone through; `try_for_each` over the same range, with a closure that writes the map, is no plainer.
     for k in 0..islands {
         let arc = map.arcs();
         map.island(k, run)?;

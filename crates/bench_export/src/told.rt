@@ -34,7 +34,7 @@ fn ask(map: &Map<'_>, side: usize) -> Result<SideTold, Refusal>
 pub(crate) fn tell(map: &Map<'_>, told: &mut [SideTold])
     ensures { told.new ≡ told_after (state_of map.now) told.old }
 {
-    for side in 0..told.len() {
-        told[side] = ask(map, side).unwrap_or(told[side]);
+    for (side, row) in told.iter_mut().enumerate() {
+        *row = ask(map, side).unwrap_or(*row);
     }
 }

@@ -8,14 +8,14 @@ use thiserror::Error;
 /// Why a line was not read.
 #[derive(Clone, Copy, PartialEq, Eq, Debug, Error)]
 pub enum LineFault {
-    #[error("no memory for an answer")]
+    #[error("no memory for a line")]
     NoMemory,
     /// The line is no call. By its first word it has to be this one.
     #[error("expected {0}")]
     NoCall(Expected),
 }
 
-// Stays: `from_gives` says which fault comes of it, as the contracts of those who convert need, and `#[from]` writes a `From` that says nothing.
+// Stays: the contract of `read_line` needs to know which fault comes; `#[from]` says nothing of it, and wants a field, which `NoMemory` has not. With a closure in a `map_err` at each `?` it is no plainer.
 impl From<AllocError> for LineFault {
     ghost from_gives = { λ _ fault. fault ≡ NoMemory };
 

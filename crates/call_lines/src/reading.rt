@@ -42,6 +42,7 @@ fn passes(word: &str) -> bool
 }
 
 // The new side of a division that a word names: + for the unturned one, - for the turned one.
+// Stays: `FromStr` or `TryFrom` for `ArcSide` would have to stand in `topology`, beside the type, where no word is read; a type of our own around it, for one call, is no plainer.
 fn named_side(word: &str) -> Option<ArcSide>
     ensures { result ≡ named_side word.now }
 {
@@ -64,7 +65,7 @@ fn division_sides(words: &[String]) -> Option<(usize, usize, ArcSide)>
 }
 
 // An island: a polygon, and then the vertices of a run.
-// Stays: the run is read only after the words before it, and for want of memory that can fail; `map` with `transpose` and `flatten`, one closure in another, is no plainer.
+// Stays: here and in `read_division` the run is read only after the words before it, and for want of memory that can fail; `map` with `transpose` and `flatten`, one closure in another, is no plainer.
 fn read_island(heap: Global, words: &[String]) -> Result<Option<Call<Vec<Vertex>>>, AllocError>
     ensures { IfOk result (λ o. SaysCall (call_of IslandCall (texts words.now)) o) }
 {

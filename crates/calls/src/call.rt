@@ -12,7 +12,7 @@ pub enum Call<R> {
     Lift {
         arc: usize,
     },
-    /// divides an arc at a vertex, with a new node there
+    /// parts an arc at a vertex, with a new node there
     Split {
         arc: usize,
         vertex: usize,

@@ -9,7 +9,7 @@ ghost use Rattle.decimals.specs.Plain.{before_point, after_point, digits_after, 
 const LIMIT: u64 = 0x20_0000_0000_0000;
 
 // The number that digits write after those of n, where it stays below the limit.
-// Stays: `parse` takes a plus before the digits and refuses a text of none, and of a part it tells the number alone, which a power of ten would have to add to n. With a test for each of these it is no plainer.
+// Stays: `parse` takes a plus before the digits and refuses a text of no digits, and of a part it tells the number alone, which a power of ten would have to add to n. With a test for each of these it is no plainer.
 fn digits_after(n: u64, digits: &str) -> Option<u64>
     requires { n < 2 ^ 53 }
     ensures value { result ≡ digits_after n digits.now }

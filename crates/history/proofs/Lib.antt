@@ -1,3 +1,4 @@
 pub mod Turns
 pub mod Frees
 pub mod Histories
+pub mod Each

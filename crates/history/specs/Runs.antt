@@ -7,7 +7,7 @@ use Rattle.topology.specs.declared.vertex.Vertex.{Vertex}
 use Rattle.topology.specs.States.{State, state_of}
 use Rattle.calls.specs.declared.call.Call.{Call}
 use Rattle.calls.specs.declared.answer.Answer.{Answer}
-use Rattle.calls.specs.Outcomes.{outcome}
+use Rattle.calls.specs.Outcomes.{outcome, Played}
 
 -- what calls find and leave: the state of the map, and the text of the last listing with what stood there before
 pub record World : Type 0 where
@@ -51,6 +51,13 @@ vertices_used m = length m.vertices
 pub record FreeRows (most_sides most_vertices : ℕ) (was is : Map) : Type 0 where
   pub free_sides : (k : ℕ) → most_sides ≤ k → drop k is.sides.rows.now ≡ drop k was.sides.rows.now
   pub free_vertices : (k : ℕ) → most_vertices ≤ k → drop k is.vertices.rows.now ≡ drop k was.vertices.rows.now
+
+-- each call was played on what the one before it left
+abbrev pub PlayedEach : List (Call (List Vertex)) → Map → Map → List ℕ → List ℕ → List (Result Answer Refusal) → Type 0
+PlayedEach [] was is before text [] = (is ≡ was) × (text ≡ before)
+PlayedEach [] was is before text (a ∷ more) = ⊥
+PlayedEach (c ∷ cs) was is before text [] = ⊥
+PlayedEach (c ∷ cs) was is before text (a ∷ more) = (m : Map) × (left : List ℕ) × Played c was m before left a × PlayedEach cs m is left text more
 
 -- the calls were played, or there was no room for the answers and all is as it was
 abbrev pub Runs : List (Call (List Vertex)) → Map → Map → List ℕ → List ℕ → List (Result Answer Refusal) → List (Result Answer Refusal) → Result (Unit {0}) Refusal → Type 0

@@ -1,7 +1,7 @@
-ghost use Rattle.std.specs.Prelude.{◌≡◌, map as each, OnOk};
+ghost use Rattle.std.specs.Prelude.{◌≡◌, length, take, map as each, OnOk};
 ghost use Rattle.topology.specs.States.{state_of};
 ghost use Rattle.calls.specs.Outcomes.{with_run};
-ghost use Rattle.history.specs.Runs.{Replayed};
+ghost use Rattle.history.specs.Runs.{Replayed, PlayedEach};
 ghost use Rattle.history.specs.Law.{HistoryLaw, Lasts};
 
 use calls::answer::Answer;
@@ -21,6 +21,7 @@ pub fn replay<R: AsSlice<Vertex>>(
     told: &mut [Result<Answer, Refusal>],
 ) -> Result<(), Refusal>
     ensures replayed { Replayed (each (with_run R.items) calls.now) map.old map.new text.old text.new told.old told.new result }
+    ensures each { OnOk result (PlayedEach (each (with_run R.items) calls.now) map.old map.new text.old text.new (take (length calls.now) told.new)) }
     ensures lasts { OnOk result (Lasts (each (with_run R.items) calls.now) (state_of map.old) text.old (state_of map.new)) }
     ensures law { HistoryLaw }
 {

@@ -17,7 +17,7 @@ pub enum PlayFault {
     NoText(TextFault),
 }
 
-// Stays: here and below `from_gives` says which fault comes of it, as the contracts of those who convert need, and `#[from]` writes a `From` that says nothing.
+// Stays: here and below, the contracts of `play_line` and `play_bytes` need to know which fault comes; `#[from]` says nothing of it, and wants a field, which `NotUtf8` has not. With a `map_err` at each `?` it is no plainer.
 impl From<Utf8Error> for PlayFault {
     ghost from_gives = { λ _ fault. fault ≡ NotUtf8 };
 

@@ -1,6 +1,6 @@
 ghost use Rattle.std.specs.Prelude.{◌≡◌, IfOk, vec_items};
 ghost use Rattle.topology.specs.States.{state_of};
-ghost use Rattle.calls.specs.Outcomes.{with_run};
+ghost use Rattle.calls.specs.Outcomes.{with_run, Played};
 ghost use Rattle.line_words.specs.LineWords.{words_of};
 ghost use Rattle.call_lines.specs.Spoken.{spoken};
 ghost use Rattle.journal.specs.Ends.{line_of};
@@ -11,9 +11,11 @@ use super::fault::PlayFault;
 use answer_lines::fault::TextFault;
 use answer_lines::lines::answer_text;
 use call_lines::reading::read_line;
+use calls::answer::Answer;
 use calls::call::Call;
-use calls::playing::play;
+use history::replaying::replay;
 use listing::listing_size;
+use refusal::Refusal;
 use std::alloc::Global;
 use std::str::from_utf8;
 use topology::map::Map;
@@ -29,12 +31,22 @@ fn room<R>(map: &Map, call: &Call<R>) -> usize
     }
 }
 
-// Plays a call, and gives the text of its answer.
-fn play_call(heap: Global, map: &mut Map, call: &Call<Vec<Vertex>>) -> Result<Vec<u8>, TextFault>
-    ensures { IfOk result (λ bs. Done (with_run vec_items call.now) map.old map.new bs.items) }
+// Plays a call as a list of calls, and gives the answer to it.
+fn play_one(map: &mut Map, call: Call<Vec<Vertex>>, text: &mut [u8]) -> Result<Answer, Refusal>
+    ensures { Played (with_run vec_items call) map.old map.new text.old text.new result }
 {
-    let mut text = vec![in heap; 0; room(map, call)]?;
-    let answer = play(map, call, text.as_mut_slice());
+    let mut told = [Ok(Answer::Done)];
+    replay(map, &[call], text, &mut told)?;
+    let [answer] = told;
+    answer
+}
+
+// Plays a call, and gives the text of its answer.
+fn play_call(heap: Global, map: &mut Map, call: Call<Vec<Vertex>>) -> Result<Vec<u8>, TextFault>
+    ensures { IfOk result (λ bs. Done (with_run vec_items call) map.old map.new bs.items) }
+{
+    let mut text = vec![in heap; 0; room(map, &call)]?;
+    let answer = play_one(map, call, text.as_mut_slice());
     answer_text(heap, answer, text.as_slice())
 }
 
@@ -46,7 +58,7 @@ pub fn play_line(heap: Global, map: &mut Map, line: &str) -> Result<Option<Vec<u
     let Some(call) = read_line(heap, line)? else {
         return Ok(None);
     };
-    Ok(Some(play_call(heap, map, &call)?))
+    Ok(Some(play_call(heap, map, call)?))
 }
 
 /// Plays a line as it stands in a file, with its end. A line that is not UTF-8 changes nothing.

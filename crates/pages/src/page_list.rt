@@ -46,8 +46,9 @@ impl PageList {
     }
 
     // The page that holds byte a.
+    // Stays: that the bytes lie in the listed pages, which `read` and `write` have just judged, is a condition here, of `fetch` and of `store`. A type of places would hold for one list, and is no plainer.
     pub(crate) fn page(&self, a: usize) -> usize
-        requires { a < 512 * self.now.len }
+        requires listed { a < 512 * self.now.len }
         ensures value { result ≡ slice_index self.now.list (a / 512) }
         ensures below { result < 128 }
     {

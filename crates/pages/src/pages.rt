@@ -39,7 +39,7 @@ fn put(pages: &mut [[u8; 512]; 128], page: usize, at: usize, b: u8)
 impl Pages<'_> {
     // Fills the buffer with the bytes from `at` on.
     fn fetch(&self, at: usize, into: &mut [u8])
-        requires { at + length into.old ≤ 512 * self.now.list.len }
+        requires listed { at + length into.old ≤ 512 * self.now.list.len }
         ensures { into.new ≡ run (content self.now.pages.now self.now.list.list self.now.list.len) at (length into.old) }
     {
         let pages: &[[u8; 512]; 128] = self.pages;
@@ -51,7 +51,7 @@ impl Pages<'_> {
 
     // Puts the given bytes in the place of those from `at` on.
     fn store(&mut self, at: usize, from: &[u8])
-        requires { at + length from.now ≤ 512 * self.old.list.len }
+        requires listed { at + length from.now ≤ 512 * self.old.list.len }
         ensures after { content self.new.pages.now self.old.list.list self.old.list.len ≡ overwrite (content self.old.pages.now self.old.list.list self.old.list.len) at from.now }
         ensures lent { self.new.pages.ghost_name ≡ self.old.pages.ghost_name }
         ensures list { self.new.list ≡ self.old.list }

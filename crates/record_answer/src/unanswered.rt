@@ -19,7 +19,7 @@ pub enum Unanswered {
     NoBoxes,
 }
 
-// Stays: here and below `from_gives` says which fault comes of it, as the contracts of those who convert need, and `#[from]` writes a `From` that says nothing.
+// Stays: here and below, the contract of `answer` needs to know which reason comes; `#[from]` says nothing of it, and wants a field, which `NoMemory` has not. With a `map_err` at each of six `?` it is no plainer.
 impl From<AllocError> for Unanswered {
     ghost from_gives = { λ _ e. e ≡ NoMemory };
 
@@ -36,7 +36,7 @@ impl From<Refusal> for Unanswered {
     }
 }
 
-// Stays: `output` says what is printed, which is promised, and the derive of `thiserror` writes a `Display` that says nothing.
+// Stays: what is printed is promised, by `output`. The derive of `thiserror` writes a `Display` that says nothing; with a function beside it that promises the text it is no plainer.
 impl fmt::Display for Unanswered {
     ghost output = { λ e. Some (unanswered_text e) };
 

@@ -31,7 +31,7 @@ pub enum Failure<'w> {
     Unanswered(Unanswered),
 }
 
-// Stays: here and below `from_gives` says which fault comes of it, as the contracts of those who convert need, and `#[from]` writes a `From` that says nothing.
+// Stays: here and below, the contract of `reply` names the failure that comes, of which `#[from]` says nothing. With a `map_err` at each of three `?` it is no plainer.
 impl<'w> From<Fault> for Failure<'w> {
     ghost from_gives = { λ fault e. e ≡ Words fault };
 

@@ -12,8 +12,8 @@ use std::alloc::{AllocError, Global};
 use tables::tables::{BoxedTable, RecordTable, meets_at};
 
 // The report on the records of a table that are wanted.
-// Stays: the records are counted where their lines are put, since each line can find no memory and the number is wanted after the last; `filter` and `try_fold` over the same range, with a closure in each, is no plainer.
-// Stays: heap, kind, version and table are four parameters here and in the two public functions, which keep their signatures. A struct of them would be made in both and taken apart here; a table that told its kind and version would ask that of everyone who implements RecordTable.
+// Stays: the records are counted where their lines are put, since there may be no memory for a line, and the number is wanted after the last; `filter` and `try_fold` over the same range, with a closure in each, is no plainer.
+// Stays: heap, kind, version and table are four parameters here and in the two public functions, which keep their signatures. A struct of them would be made in both and taken apart here; a table that told its kind and version would ask that of everyone who implements RecordTable. Neither is plainer.
 fn report<T: RecordTable, F: Fn(usize) -> bool>(
     heap: Global,
     kind: Kind,

@@ -77,7 +77,7 @@ impl BoxedKind for Points {
     }
 }
 
-// Stays: one impl for arcs and polygons over a trait of the kinds with a stored box needs that trait, and an impl with the law for each of the two.
+// Stays: one impl for arcs and polygons over a trait of the kinds with a stored box needs that trait, and an impl with the law for each of the two, and is no plainer.
 impl BoxedKind for Arcs {
     ghost extent = { 32 };
 

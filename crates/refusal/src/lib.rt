@@ -83,6 +83,7 @@ impl Refusal {
     }
 }
 
+// Stays: what is printed is promised, by `output`. The derive of `thiserror` writes a `Display` that says nothing; with a function beside it that promises the text it is no plainer.
 impl fmt::Display for Refusal {
     ghost output = { λ e. Some (refusal_text e) };
 

@@ -44,7 +44,7 @@ fn placed(header: Header, arcs: u64, size: usize) -> Result<(Kind, Shape), Refus
 }
 
 // The kind of a file that is asked for by letter, and where its records lie.
-// Stays: letter, file and arcs go together here, in `View::new` and in the answer to a request. A struct of the three would be made in each caller for one call.
+// Stays: letter, file and arcs go together here, in `View::new` and in the answer to a request. Both are public, and their parameters stay; a struct of the three, made in each for one call, is no plainer.
 #[tactic(auto, using(refusal::proofs::Options::ok_of_ok_or, crate::proofs::WholeLaws::whole_from_end))]
 fn located(letter: char, file: &[u8], arcs: u64) -> Result<(Kind, Shape), Refusal>
     ensures value { result ≡ view_outcome file.now letter arcs }

@@ -18,7 +18,7 @@ loop-i-preserved c =
           ∙ store_more pages (content c.args.self.now.pages.now ps n) ps c.args.from.now n c.args.at c.loop-i.i
           c.args.self.now.list.below c.args.self.now.list.apart c.put.ensures.all
           (at-page c.page.result page c.put.ensures.whole)
-          (length_content c.args.self.now.pages.now ps n) c.requires (omega arith) c.loop-i.invariant.held;
+          (length_content c.args.self.now.pages.now ps n) c.requires.listed (omega arith) c.loop-i.invariant.held;
       list = c.loop-i.invariant.list;
       lent = c.loop-i.invariant.lent;
     }
