@@ -49,9 +49,9 @@ decimal_read : {E : Type 0} (bs : List ℕ) (r : Result Float E) → ParsesFloat
 decimal_read bs (Ok x) h = (sym h.0, λ e. let p = numeral_of (without_leading_plus bs) e in ok_same x _ (h.1 p.0 p.1))
 decimal_read bs (Err e) h = sym h.0
 
--- of a plain number that is the double nearest to it
+-- it is what the text writes, and of a plain number the double nearest to it
 pub decimal_said : {E : Type 0} (bs : List ℕ) (r : Result Float E) → ParsesFloat binary64 64 bs r → IsParseFloatResult binary64 bs r → Decimal bs (result_ok r)
-decimal_said bs r h i = at (plain (without_sign bs)) refl
+decimal_said bs r h i = record { rounded = parsed bs r i; said = at (plain (without_sign bs)) refl }
   where
     at : (o : Option (ℕ × ℕ)) → plain (without_sign bs) ≡ o → Said bs (nearest_double (starts_with_minus bs) o) (result_ok r)
     at None e = decimal_read bs r h

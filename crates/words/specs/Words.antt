@@ -2,7 +2,7 @@
 use Rattle.std.specs.Prelude.{◌≡◌, ℕ, ◌^◌, Bool, true, false, cond, ◌&&◌, List, [], ◌∷◌, length, pos, Some, None, Option, nat_lt, Float}
 use Rattle.std.specs.Float.{binary64}
 use Rattle.std.specs.Float.Ieee.{of_int}
-use Rattle.std.specs.Float.Parse.{is_float_text}
+use Rattle.std.specs.Float.Parse.{parse_float, is_float_text}
 use Rattle.std.specs.Str.Parse.{without_leading_plus, digits_value}
 use Rattle.std.specs.Str.{all_ascii_digits, chars}
 use Rattle.decimals.specs.Plain.{plain_of}
@@ -35,5 +35,7 @@ abbrev pub Said : List ℕ → Option Float → Option Float → Type 0
 Said bs (Some y) r = r ≡ Some y
 Said bs None r = Parsed bs r
 
-abbrev pub Decimal : List ℕ → Option Float → Type 0
-Decimal bs r = Said bs (plain_of bs) r
+-- The double that a text writes, or none where it writes no number: `parse_float` is std's definition of it, the exact number rounded once, for every text.
+pub record Decimal (bs : List ℕ) (r : Option Float) : Type 0 where
+  pub rounded : r ≡ parse_float binary64 bs
+  pub said : Said bs (plain_of bs) r

@@ -2,8 +2,7 @@
 #![tactic(auto)]
 
 ghost use Rattle.std.specs.Prelude.{◌≡◌, is_some};
-ghost use Rattle.std.specs.Float.{binary64};
-ghost use Rattle.std.specs.Float.Parse.{parse_float, is_float_text};
+ghost use Rattle.std.specs.Float.Parse.{is_float_text};
 ghost use Rattle.words.specs.Words.{whole_of, character_of, Parsed, Decimal};
 
 // Stays: `whole`, `character` and `decimal` are one line each and differ in the type that is read. A function over the type would be that line again, with each type's meaning as a ghost member of a trait, and is no plainer.
@@ -31,7 +30,6 @@ pub fn character(word: &str) -> Option<char>
 
 /// The double that a word writes: what Rust's `parse` reads. A number is rounded once, so a plain decimal number gives the nearest double; `inf` and `nan` give what they name.
 pub fn decimal(word: &str) -> Option<f64>
-    ensures rounded { result ≡ parse_float binary64 word.now }
     ensures said { Decimal word.now result }
     ensures reads { is_some result ≡ is_float_text word.now }
 {
