@@ -1,8 +1,8 @@
 -- A map whose table of sides has lost those of an arc between two rings.
-use Rattle.std.proofs.Common.{◌≡◌, ℕ, suc, ◌+◌, ◌-◌, ◌/◌, ◌<◌, ◌≤◌, false, ◌&&◌, ◌||◌, ltb, List, length, get_or, take, drop, Ok, Err, sym, refl, ap, ◌∙◌, subst, arith, ◌++◌, Bool, true, map}
+use Rattle.std.proofs.Common.{◌≡◌, ℕ, suc, ◌+◌, ◌-◌, ◌/◌, ◌<◌, ◌≤◌, false, ◌&&◌, ◌||◌, ltb, List, length, get_or, take, drop, Ok, Err, sym, refl, ap, ◌∙◌, subst, arith, ◌++◌, Bool, true, map, eqb, not}
 use Rattle.std.proofs.lemmas.Bool.{lt-ltb, cond-true, cond-false, false≢true}
 use Rattle.refusal.specs.declared.Refusal.TheVariants.{NoSuchElement, SidesShareRing, RingsAlone}
-use Rattle.rings.specs.Circles.{walk, ring, rings, meets}
+use Rattle.rings.specs.Circles.{walk, ring, rings, meets, one_if}
 use Rattle.rings.specs.Law.{turn}
 use Rattle.rings.specs.LetIn.{without}
 use Rattle.rings.specs.Edits.{exchanged}
@@ -10,7 +10,7 @@ use Rattle.topology.specs.declared.side.Side.{Side}
 use Rattle.topology.specs.declared.vertex.Vertex.{Vertex}
 use Rattle.topology.specs.declared.table.Table.{Table}
 use Rattle.topology.specs.declared.map.Map.{Map}
-use Rattle.topology.specs.Rows.{no_side, next_of}
+use Rattle.topology.specs.Rows.{no_side, next_of, polygon_of}
 use Rattle.topology.specs.States.{State, state_of}
 use Rattle.topology.specs.Tables.{Holds}
 use Rattle.topology.specs.Lawfuls.{Lawful}
@@ -21,7 +21,7 @@ use Rattle.std.proofs.lemmas.List.{length-set, length-map, length-take-le}
 use Rattle.topology.proofs.Growth.{held_used}
 use Rattle.topology.proofs.Assembling.{lawful_at, lawful_of, state_from}
 use Rattle.topology.proofs.TakenOut.{sides_are, used_are, length_are, rows_long, rest_are, lent_are}
-use Rattle.topology.proofs.DissolveLaw.{dissolve_lawful, dissolve_rings, dissolve_meets, dissolve_ring, dissolve_others, dissolve_turns, node_room}
+use Rattle.topology.proofs.DissolveLaw.{dissolve_lawful, dissolve_rings, dissolve_meets, dissolve_ring, dissolve_others, dissolve_turns, dissolve_polygons, dissolve_polygon_gone, node_room}
 
 neither : (b d : Bool) → (b || d) ≡ false → (b ≡ false) × (d ≡ false)
 neither true d e = absurd (false≢true (sym e))
@@ -165,6 +165,11 @@ module _ (m : Map) (a : ℕ) (here : a < arc_count (state_of m)) (apart : share_
           ∙ (ap (λ (w : List Side). ring (turn (next_of w)) (z + z) k) sides_now
           ∙ (dissolve_turns us vs m.nodes m.polygons z a two_more low L apart some k (omega (arith, l, length₂))
           ∙ ap (λ (n : ℕ). map (exchanged a z) (without (a + a + 1) (without (a + a) (ring (turn (next_of us)) n (exchanged a z k))))) (sym two_more)));
+      polygon_gone =
+          ap (λ (j : ℕ). j + one_if (not (eqb (polygon_of us (a + a)) (polygon_of us (a + a + 1))))) lefts
+          ∙ dissolve_polygon_gone us vs m.nodes m.polygons z a two_more low L apart some;
+      polygons = λ k l.
+          ap (λ (w : List Side). polygon_of w k) sides_now ∙ dissolve_polygons us vs m.nodes m.polygons z a two_more low L apart some k (omega (arith, l, length₂));
     }
 
     -- nodes + rings - arcs is as it was

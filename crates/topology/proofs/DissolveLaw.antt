@@ -1,8 +1,8 @@
 -- A dissolve keeps the law, and two rings become one.
-use Rattle.std.proofs.Common.{◌≡◌, ℕ, suc, ◌+◌, ◌-◌, ◌<◌, ◌≤◌, true, false, ◌&&◌, ◌||◌, List, map, length, get_or, sym, ap, ◌∙◌, subst, arith, ◌∷◌, ◌++◌, inl, inr}
-use Rattle.std.proofs.lemmas.Bool.{cases_eq, cases_lt}
+use Rattle.std.proofs.Common.{◌≡◌, ℕ, suc, ◌+◌, ◌-◌, ◌<◌, ◌≤◌, true, false, cond, not, eqb, min, ◌⊎◌, ◌&&◌, ◌||◌, List, map, length, get_or, sym, ap, ◌∙◌, subst, arith, ◌∷◌, ◌++◌, inl, inr}
+use Rattle.std.proofs.lemmas.Bool.{cases_eq, cases_lt, cases_Bool}
 use Rattle.std.proofs.lemmas.Bool.Decides.{nat_tests}
-use Rattle.rings.specs.Circles.{walk, ring, rings, meets}
+use Rattle.rings.specs.Circles.{walk, ring, rings, meets, one_if}
 use Rattle.rings.specs.Law.{opp, turn}
 use Rattle.rings.specs.LetIn.{without}
 use Rattle.rings.proofs.Renamed.{ring_renamed}
@@ -12,13 +12,23 @@ use Rattle.rings.specs.Edits.{exchanged, fill}
 use Rattle.rings.proofs.LastOut.{meets_less}
 use Rattle.topology.specs.declared.side.Side.{Side}
 use Rattle.topology.specs.declared.vertex.Vertex.{Vertex}
-use Rattle.topology.specs.Rows.{no_vertex, next_of, node_of, row_of, start_of}
+use Rattle.topology.specs.Rows.{no_vertex, next_of, node_of, polygon_of, row_of, start_of}
 use Rattle.topology.specs.MapLaw.{EndsTogether, RunsStand}
 use Rattle.topology.specs.Lawfuls.{Lawful}
 use Rattle.topology.specs.Lifts.{closed_alone, ring_left, lifted_sides, polygons_left}
-use Rattle.topology.specs.Dissolves.{share_ring, both_alone, freed}
-use Rattle.topology.proofs.LiftLaw.{lift_lawful, lift_rings, σ-low, not_gone, row_is, next_is, node_is}
-use Rattle.topology.proofs.FreedLaw.{freed_lawful, freed_alone, freed_left, freed_long, freed_meets, vertices_long, at_s, at_o, in_rings₁, in_turns₁, count₁, node_else, row_same, row_s, freed_first, freed_ring, freed_other, freed_turn}
+use Rattle.topology.specs.Dissolves.{share_ring, both_alone, freed, merged_number}
+use Rattle.topology.proofs.LiftLaw.{lift_lawful, lift_rings, σ-low, not_gone, row_is, next_is, node_is, polygon_is, after}
+use Rattle.topology.proofs.FreedLaw.{freed_lawful, freed_alone, freed_left, freed_long, freed_meets, vertices_long, at_s, at_o, in_rings₁, in_turns₁, count₁, node_else, row_same, row_s, polygon_s, polygon_o, polygon_merged, freed_first, freed_ring, freed_other, freed_turn}
+
+-- a number is told anew as the outcome of a dissolve has it
+merged_after : (p q polygons x : ℕ) → p < polygons → q < polygons → x < polygons → after p q polygons x ≡ merged_number p q polygons x
+merged_after p q polygons x lp lq lx = grind (arith, nat_tests)
+
+lower_after : (p q polygons x : ℕ) → p < polygons → q < polygons → (x ≡ p) ⊎ (x ≡ q) → after p q polygons (min p q) ≡ merged_number p q polygons x
+lower_after p q polygons x lp lq e = grind (arith, nat_tests)
+
+gone_or_not : (p q polygons : ℕ) → p < polygons → cond (eqb p q) polygons (polygons - 1) + one_if (not (eqb p q)) ≡ polygons
+gone_or_not p q polygons lp = elim (cases_Bool (eqb p q)) [ inl e ↦ rw e (omega arith) | inr e ↦ rw e (omega arith) ]
 
 pub fill_itself : (n m x : ℕ) → n ≡ m → fill n m x ≡ x
 fill_itself n m x e = grind (arith, nat_tests)
@@ -175,3 +185,34 @@ module _ (us : List Side) (vs : List Vertex) (nodes polygons z a : ℕ) (long : 
       ring_renamed σ σ (turn h) (turn (next_of us₂)) N m low₂ (λ j _. exchanged_twice a z j)
       (λ j i. ap h (exchanged_opp a z j) ∙ leads₂ (opp j) (opp_low m j (omega arith) i)) L₂.in_turns k l
       ∙ ap (map σ) (freed_turn us vs nodes polygons z a long here L apart some (σ k) (low₂ k l) ns nt)
+
+  abbrev p : ℕ
+  p = polygon_of us (a + a)
+
+  abbrev q : ℕ
+  q = polygon_of us (a + a + 1)
+
+  -- the two polygons are one, and the last takes the number that went
+  pub dissolve_polygons : (k : ℕ) → k < m → polygon_of us₂ k ≡ merged_number p q polygons (polygon_of us (σ k))
+  dissolve_polygons k l =
+      let (ns, nt) = other k l in
+      let i = polygon_s us vs nodes polygons z a long here L apart some in
+      let j = polygon_o us vs nodes polygons z a long here L apart some in
+      let lp = L.polygons_known (a + a) (omega arith) in
+      let lq = L.polygons_known (a + a + 1) (omega arith) in
+      let lk = L.polygons_known (σ k) (low k (omega arith)) in
+      polygon_is us₁ vs₁ (nodes + 1) polygons z a long₁ here L₁ alone₁ left₁ k l
+      ∙ (ap (λ (b : ℕ). after b (polygon_of us₁ (a + a + 1)) polygons (polygon_of us₁ (σ k))) i
+      ∙ (ap (λ (b : ℕ). after p b polygons (polygon_of us₁ (σ k))) j
+      ∙ elim (polygon_merged us vs nodes polygons z a long here L apart some (σ k) (low k (omega arith)) ns nt) [
+        | inl e ↦ ap (after p q polygons) e ∙ merged_after p q polygons (polygon_of us (σ k)) lp lq lk
+        | inr e ↦ ap (after p q polygons) e.0 ∙ lower_after p q polygons (polygon_of us (σ k)) lp lq e.1
+      ]))
+
+  -- one polygon fewer, where they were two
+  pub dissolve_polygon_gone : P + one_if (not (eqb p q)) ≡ polygons
+  dissolve_polygon_gone =
+      let i = polygon_s us vs nodes polygons z a long here L apart some in
+      let j = polygon_o us vs nodes polygons z a long here L apart some in
+      ap (λ (b : ℕ). cond (eqb b (polygon_of us₁ (a + a + 1))) polygons (polygons - 1) + one_if (not (eqb p q))) i
+      ∙ (ap (λ (b : ℕ). cond (eqb p b) polygons (polygons - 1) + one_if (not (eqb p q))) j ∙ gone_or_not p q polygons (L.polygons_known (a + a) (omega arith)))

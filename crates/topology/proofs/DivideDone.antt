@@ -25,7 +25,7 @@ use Rattle.topology.specs.Divisions.{ring_told, linked, unturned_polygon, turned
 use Rattle.topology.proofs.Growth.{held_used, grown_used}
 use Rattle.topology.proofs.Assembling.{lawful_at, lawful_of, state_from, room_told}
 use Rattle.topology.proofs.RingTold.{told_long, told_else}
-use Rattle.topology.proofs.DivideLaw.{linked_long, linked_rings, next', long', rings_more, two_apart, in_just_one, other_rings, unturned_list, turned_list, turn_list, divide_lawful}
+use Rattle.topology.proofs.DivideLaw.{linked_long, linked_rings, next', long', rings_more, two_apart, in_just_one, other_rings, unturned_list, turned_list, turn_list, divide_lawful, at_unturned, at_turned, at_other}
 
 -- ---- tables
 
@@ -178,7 +178,7 @@ module _ (d : Division) where
       subst (λ (z : ℕ → ℕ). P z (length us') (n + 1)) (sym same_next)
       (subst (λ (k : ℕ). P (next_of xs) k (n + 1)) (sym so_long) (subst (P (next_of xs) (n + 2)) (sym (add-one n)) h))
 
-  pub divide_rings : RingDivided (state_of m) (divided (state_of m) first second run named) first second
+  pub divide_rings : RingDivided (state_of m) (divided (state_of m) first second run named) first second named
   divide_rings = record {
     one_more =
         moved (λ z k t. length (rings z k) ≡ length (rings f n) + 1)
@@ -201,6 +201,10 @@ module _ (d : Division) where
     turns = λ j l.
         moved (λ z k t. ring (turn z) k j ≡ let_in (divide_after (turn f) n first second) (ring (turn f) n j))
         (turn_list us vs run m.nodes m.polygons first second p.0 q.0 pu pt L first_in second_in p.1 q.1 p.2 q.2 share j l);
+    one_more_polygon = refl;
+    unturned_under = at_unturned us vs run m.nodes m.polygons first second p.0 q.0 pu pt L first_in second_in p.1 q.1 p.2 q.2 share;
+    turned_under = at_turned us vs run m.nodes m.polygons first second p.0 q.0 pu pt L first_in second_in p.1 q.1 p.2 q.2 share;
+    others_under = λ j l h. at_other us vs run m.nodes m.polygons first second p.0 q.0 pu pt L first_in second_in p.1 q.1 p.2 q.2 share j l h;
   }
 
   pub divide_sum : Rises 0 (state_of m) (divided (state_of m) first second run named)

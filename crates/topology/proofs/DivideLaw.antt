@@ -1,7 +1,7 @@
 -- A division keeps the law, and makes two rings of one.
 use Rattle.std.proofs.Common.{◌≡◌, ℕ, suc, ◌+◌, ◌-◌, ◌<◌, ◌≤◌, Bool, true, false, cond, ◌&&◌, eqb, ltb, leb, ◌⊎◌, List, [], ◌∷◌, ◌++◌, map, length, get_or, sym, refl, ap, ◌∙◌, subst, inl, inr, add-one, arith}
 use mathlib.Core.Path.{fun_ext}
-use Rattle.std.proofs.lemmas.Bool.{cases_eq, cases_lt, cases_Bool, and_parts, leb-true, lt-ltb, eq-eqb, ne_eqb, ltb-true, cond-true, cond-false}
+use Rattle.std.proofs.lemmas.Bool.{cases_eq, cases_lt, cases_Bool, and_parts, leb-true, lt-ltb, eq-eqb, ne_eqb, ltb-true, cond-true, cond-false, false≢true}
 use Rattle.std.proofs.lemmas.List.{get_or_append_left, get_or-append_right, get_or_past, get_or-map, length-append, length-map}
 use Rattle.rings.specs.LetIn.{let_in, divide_after}
 use Rattle.rings.proofs.DivideRings.{unturned_ring, turned_ring, turn_divided}
@@ -371,6 +371,24 @@ module _ (us : List Side) (vs run : List Vertex) (nodes polygons first second p 
 
   -- ---- the polygons
 
+  pub at_unturned : polygon_of us' m ≡ pu
+  at_unturned = polygon' m (omega arith) ∙ (data_at pu pt (polygon_of xs m) m).1 apart (meets_self g N m)
+
+  pub at_turned : polygon_of us' (suc m) ≡ pt
+  at_turned = polygon' (suc m) (omega arith) ∙ (data_at pu pt (polygon_of xs (suc m)) (suc m)).0 (meets_self g N (suc m))
+
+  -- a side of another ring has the polygon that it had
+  pub at_other : (k : ℕ) → k < m → meets f m first k ≡ false → polygon_of us' k ≡ polygon_of us k
+  at_other k lk e =
+      elim (cases_Bool (T k)) [
+        | inl t ↦ absurd (false≢true (sym e ∙ (p_first k ∙ some k lk (inr t))))
+        | inr t ↦
+            elim (cases_Bool (U k)) [
+              | inl u ↦ absurd (false≢true (sym e ∙ (p_first k ∙ some k lk (inl u))))
+              | inr u ↦ polygon' k (omega arith) ∙ ((data_at pu pt (polygon_of xs k) k).2 t u ∙ polygon_old k lk)
+            ]
+      ]
+
   module _ (named : ((pu ≡ polygons) × (pt ≡ polygon_of us first)) ⊎ ((pu ≡ polygon_of us first) × (pt ≡ polygons))) where
     known : PolygonsKnown us' N (polygons + 1)
     known k l =
@@ -383,12 +401,6 @@ module _ (us : List Side) (vs run : List Vertex) (nodes polygons first second p 
 
     has : (x k : ℕ) → k < N → polygon_of us' k ≡ x → 0 < occ x (names (polygon_of us') (rings g N))
     has x k l e = subst (λ (v : ℕ). 0 < occ v (names (polygon_of us') (rings g N))) e (label_there g (polygon_of us') N linked_rings polygon_along k l)
-
-    at_unturned : polygon_of us' m ≡ pu
-    at_unturned = polygon' m (omega arith) ∙ (data_at pu pt (polygon_of xs m) m).1 apart (meets_self g N m)
-
-    at_turned : polygon_of us' (suc m) ≡ pt
-    at_turned = polygon' (suc m) (omega arith) ∙ (data_at pu pt (polygon_of xs (suc m)) (suc m)).0 (meets_self g N (suc m))
 
     -- the new polygon and the old one stand at the new sides
     has_new : 0 < occ polygons (names (polygon_of us') (rings g N))

@@ -352,6 +352,19 @@ module _ (us : List Side) (vs : List Vertex) (nodes polygons z a : ℕ) (long : 
   of_ring k t lk lt e =
       same_ring f (polygon_of us) N (rings f N) (ringed_circles f N L.in_rings) L.one_polygon k t lk lt (λ _. low_same f low N L.in_rings L.low_along L.low_names k t lk lt e)
 
+  -- a side of another arc has the polygon that it had, or had one of the two and has the lower
+  pub polygon_merged : (k : ℕ) → k < N → (k ≡ s → ⊥) → (k ≡ o → ⊥) →
+      (polygon_of us₁ k ≡ polygon_of us k) ⊎ ((polygon_of us₁ k ≡ min p q) × ((polygon_of us k ≡ p) ⊎ (polygon_of us k ≡ q)))
+  polygon_merged k l ns nt =
+      elim (cases_eq (low k) (low s)) [
+        | inl e ↦ inr (polygon_one k l ns nt (inl e), inl (of_ring s k ls l (sym e)))
+        | inr ms ↦
+            elim (cases_eq (low k) (low o)) [
+              | inl e ↦ inr (polygon_one k l ns nt (inr e), inr (of_ring o k lo l (sym e)))
+              | inr mt ↦ inl (polygon_else k l ns nt ms mt)
+            ]
+      ]
+
   bears : (k : ℕ) → k < N → (t : ℕ) × (t < N) × (polygon_of us₁ t ≡ polygon_of us k)
   bears =
       by_place (λ k. (t : ℕ) × (t < N) × (polygon_of us₁ t ≡ polygon_of us k)) (s, ls, polygon_s) (o, lo, polygon_o)

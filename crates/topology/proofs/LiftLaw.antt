@@ -81,7 +81,7 @@ lowered_below : (s x y l : ℕ) → lowered s x y l ≤ l
 lowered_below s x y l = grind (arith, nat_tests)
 
 -- the number of a polygon, where the higher of p and q goes: known, and where each number comes from
-abbrev after : ℕ → ℕ → ℕ → ℕ → ℕ
+abbrev pub after : ℕ → ℕ → ℕ → ℕ → ℕ
 after p q polygons x = fill (max p q) (cond (eqb p q) p (polygons - 1)) (fill (min p q) (max p q) x)
 
 known_filled : (x p q polygons : ℕ) → x < polygons → p < polygons → q < polygons → after p q polygons x < cond (eqb p q) polygons (polygons - 1)
@@ -294,7 +294,7 @@ module _ (us : List Side) (vs : List Vertex) (nodes polygons z a : ℕ) (long : 
   abbrev P' : ℕ
   P' = polygons_left us polygons a
 
-  polygon_is : (k : ℕ) → k < m → polygon_of us' k ≡ polygon_filled c (polygon_of us (σ k))
+  pub polygon_is : (k : ℕ) → k < m → polygon_of us' k ≡ polygon_filled c (polygon_of us (σ k))
   polygon_is k l = ap (λ (r : Side). r.polygon) (row_is k l)
 
   one_polygon' : OnePolygon us' m

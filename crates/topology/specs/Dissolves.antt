@@ -1,8 +1,8 @@
 -- Dissolve: an arc goes, and the two rings of its sides become one.
-use Rattle.std.specs.Prelude.{◌≡◌, ℕ, zero, suc, ◌+◌, ◌-◌, ◌/◌, ◌<◌, Bool, false, cond, not, ◌&&◌, ◌||◌, List, ◌∷◌, ◌++◌, map, length, Ok, Err, Result, ◌==◌, ◌≢◌, nat_lt, slice_index_or, slice_set, min}
+use Rattle.std.specs.Prelude.{◌≡◌, ℕ, zero, suc, ◌+◌, ◌-◌, ◌/◌, ◌<◌, Bool, false, cond, not, ◌&&◌, ◌||◌, List, ◌∷◌, ◌++◌, map, length, Ok, Err, Result, ◌==◌, ◌≢◌, nat_lt, slice_index_or, slice_set, min, max}
 use Rattle.refusal.specs.declared.Refusal.{Refusal}
 use Rattle.refusal.specs.declared.Refusal.TheVariants.{NoSuchElement, SidesShareRing, RingsAlone}
-use Rattle.rings.specs.Circles.{walk, ring, meets}
+use Rattle.rings.specs.Circles.{walk, ring, meets, one_if}
 use Rattle.rings.specs.Law.{turn}
 use Rattle.rings.specs.LetIn.{without}
 use Rattle.rings.specs.Edits.{exchanged}
@@ -94,9 +94,14 @@ number_before was a s = exchanged a (arc_count was - 1) s
 abbrev pub sides_after : State → ℕ → List ℕ
 sides_after m s = walk (next_of m.sides) (length m.sides) s s
 
+-- the number that polygon x has once polygons p and q, of so many, are one: both have the lower, and where they are two, the last polygon takes
+-- the number of the higher
+abbrev pub merged_number : ℕ → ℕ → ℕ → ℕ → ℕ
+merged_number p q polygons x = cond (x == p || x == q) (min p q) (cond (x == polygons - 1 && not (p == q)) (max p q) x)
+
 -- there is one ring fewer: two sides stand in one ring now exactly if they did before, or if each stood in the ring of one of arc a's sides;
 -- the one ring has the sides after one of them, then the sides after the other, and all other rings stand as they did; the turns stand as they
--- did, without the two sides
+-- did, without the two sides; the two polygons are one, and where they were two, there is one fewer
 pub record RingsMerged (was is : State) (a : ℕ) : Type 0 where
   pub fewer : length (rings_of is) + 1 ≡ length (rings_of was)
   pub rings : (s t : ℕ) → s < length is.sides → t < length is.sides →
@@ -109,6 +114,10 @@ pub record RingsMerged (was is : State) (a : ℕ) : Type 0 where
   pub turns : (k : ℕ) → k < length is.sides →
       ring (turn (next_of is.sides)) (length is.sides) k
       ≡ map (number_before was a) (without (a + a + 1) (without (a + a) (ring (turn (next_of was.sides)) (length was.sides) (number_before was a k))))
+  pub polygon_gone : is.polygons + one_if (not (polygon_of was.sides (a + a) == polygon_of was.sides (a + a + 1))) ≡ was.polygons
+  pub polygons : (k : ℕ) → k < length is.sides →
+      polygon_of is.sides k
+      ≡ merged_number (polygon_of was.sides (a + a)) (polygon_of was.sides (a + a + 1)) was.polygons (polygon_of was.sides (number_before was a k))
 
 -- the first two free rows of a table are others
 pub record PutBack (was is : Table Side) (u v : Side) : Type 0 where

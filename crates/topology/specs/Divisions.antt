@@ -117,8 +117,9 @@ divide_outcome m first second run named =
 -- The ring of the two sides becomes two: there is one ring more; the two sides of the new arc stand in two rings; each old side stands in just one of
 -- these if it stood in the ring of the two, and else in none; and all other rings stay as they were. The new unturned side leads on to the second
 -- side and on up to what came before the first; the new turned one to the first and on up to what came before the second, and where both are
--- one side it is alone. In the turns each new side stands before the side whose start it has.
-pub record RingDivided (was is : State) (first second : ℕ) : Type 0 where
+-- one side it is alone. In the turns each new side stands before the side whose start it has. There is one polygon more, the ring of the named
+-- new side stands under it and that of the other under the old one; a ring has one polygon, so this tells it of all their sides.
+pub record RingDivided (was is : State) (first second : ℕ) (named : ArcSide) : Type 0 where
   pub one_more : length (rings_of is) ≡ length (rings_of was) + 1
   pub apart : meets (next_of is.sides) (length is.sides) (length was.sides) (length was.sides + 1) ≡ false
   pub just_one : (k : ℕ) → k < length was.sides →
@@ -134,3 +135,8 @@ pub record RingDivided (was is : State) (first second : ℕ) : Type 0 where
   pub turns : (k : ℕ) → k < length was.sides →
       ring (turn (next_of is.sides)) (length is.sides) k
       ≡ let_in (divide_after (turn (next_of was.sides)) (length was.sides) first second) (ring (turn (next_of was.sides)) (length was.sides) k)
+  pub one_more_polygon : is.polygons ≡ was.polygons + 1
+  pub unturned_under : polygon_of is.sides (length was.sides) ≡ unturned_polygon named was.polygons (polygon_of was.sides first)
+  pub turned_under : polygon_of is.sides (suc (length was.sides)) ≡ turned_polygon named was.polygons (polygon_of was.sides first)
+  pub others_under : (k : ℕ) → k < length was.sides → meets (next_of was.sides) (length was.sides) first k ≡ false →
+      polygon_of is.sides k ≡ polygon_of was.sides k

@@ -68,7 +68,7 @@ impl<'a> Map<'a> {
         requires led { leads (state_of self.old) first second run.now ≡ true }
         requires room { (arc_room (state_of self.old) && vertex_room (state_of self.old) (length run.now)) ≡ true }
         ensures done { Done (λ m. divide_outcome m first second run.now named) self.old self.new }
-        ensures rings { RingDivided (state_of self.old) (state_of self.new) first second }
+        ensures rings { RingDivided (state_of self.old) (state_of self.new) first second named }
         ensures sum { Rises 0 (state_of self.old) (state_of self.new) }
     {
         let n = self.sides.used as u32;
@@ -93,7 +93,7 @@ impl<'a> Map<'a> {
         named: ArcSide,
     ) -> Result<(), Refusal>
         ensures edited { Edited (λ m. divide_outcome m first second run.now named) self.old self.new result }
-        ensures rings { OnOk result (RingDivided (state_of self.old) (state_of self.new) first second) }
+        ensures rings { OnOk result (RingDivided (state_of self.old) (state_of self.new) first second named) }
         ensures sum { OnOk result (Rises 0 (state_of self.old) (state_of self.new)) }
     {
         if !self.share_ring(first, second)? {

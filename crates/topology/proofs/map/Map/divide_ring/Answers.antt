@@ -64,6 +64,6 @@ returns c =
         sides_lent = h.lent;
         vertices_lent = c.push_run.ensures.lent;
       };
-      rings = subst (λ (x : State). RingDivided (state_of d.m) x d.first d.second) (sym k) (divide_rings d);
+      rings = subst (λ (x : State). RingDivided (state_of d.m) x d.first d.second d.named) (sym k) (divide_rings d);
       sum = subst (λ (x : State). Rises 0 (state_of d.m) x) (sym k) (divide_sum d);
     }
