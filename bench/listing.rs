@@ -1,7 +1,7 @@
 // Measures the proved listing of a map against plain Rust.
 //
-// Both list a map of nested islands into a buffer that is there already. Times never fail
-// the run; texts that differ do.
+// Both list a map of nested islands, and a path of arcs with one ring through all sides,
+// into a buffer that is there already. Times never fail the run; texts that differ do.
 
 use std::hint::black_box;
 
@@ -10,21 +10,61 @@ const REPETITIONS: usize = 31;
 /// How many arcs are listed in one repetition, in as many listings as that takes.
 const ARCS_TIMED: usize = 16 * 16_384;
 
+/// Which map is listed.
+#[derive(Clone, Copy)]
+enum Sheet {
+    /// Islands, each in the polygon of the one before: two rings for each arc.
+    Nested,
+    /// Arcs one after the other: one ring through all sides. At least two.
+    Path,
+}
+
 mod natharqo {
+    use super::Sheet;
+
+    #[repr(C)]
+    #[derive(Clone, Copy)]
+    struct Place {
+        x: f64,
+        y: f64,
+    }
+
     extern "C" {
         fn natharqo_list_nested(islands: usize, again: usize, out: *mut u8, len: usize) -> u64;
+        fn natharqo_list_path(
+            places: *const Place,
+            places_len: usize,
+            cuts: *const usize,
+            cuts_len: usize,
+            again: usize,
+            out: *mut u8,
+            len: usize,
+        ) -> u64;
+    }
+
+    /// Round an island of one arc more than the path has, which is split from behind; then its first arc goes.
+    fn list_path(arcs: usize, again: usize, out: &mut [u8]) -> u64 {
+        let corner = |k: usize| Place { x: (k % (arcs + 1)) as f64, y: ((k % (arcs + 1)) * k) as f64 };
+        let places: Vec<Place> = (0..arcs + 2).map(corner).collect();
+        let cuts: Vec<usize> = (1..arcs + 1).rev().collect();
+        // SAFETY: the function reads `places` and `cuts`, writes at most `len` bytes at `out` and keeps nothing.
+        unsafe { natharqo_list_path(places.as_ptr(), places.len(), cuts.as_ptr(), cuts.len(), again, out.as_mut_ptr(), out.len()) }
     }
 
     /// Makes the map, lists it, and before that so many times more.
     #[inline(never)]
-    pub fn list_nested(islands: usize, again: usize, out: &mut [u8]) -> u64 {
-        // SAFETY: the function writes at most `len` bytes at `out` and keeps nothing.
-        unsafe { natharqo_list_nested(islands, again, out.as_mut_ptr(), out.len()) }
+    pub fn list(sheet: Sheet, arcs: usize, again: usize, out: &mut [u8]) -> u64 {
+        match sheet {
+            // SAFETY: the function writes at most `len` bytes at `out` and keeps nothing.
+            Sheet::Nested => unsafe { natharqo_list_nested(arcs, again, out.as_mut_ptr(), out.len()) },
+            Sheet::Path => list_path(arcs, again, out),
+        }
     }
 }
 
 /// The same work in plain Rust, written apart from the library.
 mod plain {
+    use super::Sheet;
     use std::io::Write;
 
     struct Side {
@@ -40,8 +80,27 @@ mod plain {
     }
 
     impl Map {
+        pub fn of(sheet: Sheet, arcs: usize) -> Map {
+            match sheet {
+                Sheet::Nested => Map::nested(arcs),
+                Sheet::Path => Map::path(arcs),
+            }
+        }
+
+        /// An island of one arc more, split from behind, without its first arc; the last one has its number.
+        fn path(arcs: usize) -> Map {
+            let along = std::iter::once(0).chain((1..arcs).rev()).map(|arc| 2 * arc);
+            let back = (1..arcs).chain(std::iter::once(0)).map(|arc| 2 * arc + 1);
+            let ring: Vec<usize> = along.chain(back).collect();
+            let mut sides: Vec<Side> = (0..2 * arcs).map(|side| Side { polygon: 0, next: side }).collect();
+            for (at, side) in ring.iter().enumerate() {
+                sides[*side].next = ring[(at + 1) % ring.len()];
+            }
+            Map { sides, nodes: arcs + 1, polygons: 1 }
+        }
+
         /// So many islands, each in the polygon of the one before.
-        pub fn nested(islands: usize) -> Map {
+        fn nested(islands: usize) -> Map {
             let mut map = Map { polygons: 1, ..Map::default() };
             for outer in 0..islands {
                 let n = map.sides.len();
@@ -144,13 +203,13 @@ struct Measured {
 }
 
 /// The times of both, taken in turns. The library's are those of calls that list many times, less those of calls that list once.
-fn measured(islands: usize, out: &mut [u8]) -> (Measured, Measured) {
-    let times = ARCS_TIMED / islands;
-    let map = plain::Map::nested(islands);
+fn measured(sheet: Sheet, arcs: usize, out: &mut [u8]) -> (Measured, Measured) {
+    let times = ARCS_TIMED / arcs;
+    let map = plain::Map::of(sheet, arcs);
     let (mut many, mut once, mut plain) = (Times::default(), Times::default(), Times::default());
     for _ in 0..=REPETITIONS {
         many.0.push(seconds(|| {
-            black_box(natharqo::list_nested(black_box(islands), black_box(times), black_box(out)));
+            black_box(natharqo::list(sheet, black_box(arcs), black_box(times), black_box(out)));
         }));
         plain.0.push(seconds(|| {
             for _ in 0..times {
@@ -158,7 +217,7 @@ fn measured(islands: usize, out: &mut [u8]) -> (Measured, Measured) {
             }
         }));
         once.0.push(seconds(|| {
-            black_box(natharqo::list_nested(black_box(islands), black_box(0), black_box(out)));
+            black_box(natharqo::list(sheet, black_box(arcs), black_box(0), black_box(out)));
         }));
     }
     // the first of each warms up
@@ -180,55 +239,48 @@ struct Agreement {
 }
 
 impl Agreement {
-    fn note(&mut self, what: &str, islands: usize, agrees: bool) {
+    fn note(&mut self, what: &str, arcs: usize, agrees: bool) {
         self.compared += 1;
         if !agrees {
             self.differing += 1;
-            println!("DIFFER: {what}, {islands} islands");
+            println!("DIFFER: {what}, {arcs} arcs");
         }
     }
 
     /// The text in a buffer that is too long, just long enough and a byte too short. Gives its length.
-    fn hold(&mut self, islands: usize, again: usize) -> usize {
-        let mut long = vec![b'!'; 64 * (islands + 1)];
-        let size = plain::Map::nested(islands).list(&mut long).unwrap();
+    fn hold(&mut self, sheet: Sheet, arcs: usize, again: usize) -> usize {
+        let mut long = vec![b'!'; 64 * (arcs + 1)];
+        let size = plain::Map::of(sheet, arcs).list(&mut long).unwrap();
         let text = &long[..size];
 
         let mut out = vec![b'!'; size + 9];
-        let said = natharqo::list_nested(islands, again, &mut out);
-        self.note("room to spare", islands, said == size as u64 && out[..size] == *text && out[size..] == *b"!!!!!!!!!");
+        let said = natharqo::list(sheet, arcs, again, &mut out);
+        self.note("room to spare", arcs, said == size as u64 && out[..size] == *text && out[size..] == *b"!!!!!!!!!");
 
         let mut out = vec![b'!'; size];
-        let said = natharqo::list_nested(islands, again, &mut out);
-        self.note("no room to spare", islands, said == size as u64 && out == text);
+        let said = natharqo::list(sheet, arcs, again, &mut out);
+        self.note("no room to spare", arcs, said == size as u64 && out == text);
 
         let mut out = vec![b'!'; size - 1];
-        let said = natharqo::list_nested(islands, again, &mut out);
-        self.note("a byte too short", islands, said == u64::MAX && out.iter().all(|byte| *byte == b'!'));
+        let said = natharqo::list(sheet, arcs, again, &mut out);
+        self.note("a byte too short", arcs, said == u64::MAX && out.iter().all(|byte| *byte == b'!'));
         size
     }
 }
 
-fn main() {
-    let mut agreement = Agreement::default();
-    for islands in 0..=130 {
-        for again in [0, 1, 2] {
-            agreement.hold(islands, again);
-        }
-    }
-    let mut out = [b'!'; 100];
-    agreement.note("one arc too many", 16_385, natharqo::list_nested(16_385, 0, &mut out) == u64::MAX && out == [b'!'; 100]);
-
-    println!("Times of one listing of a map of nested islands, in microseconds, {REPETITIONS} repetitions of each:\n");
+/// The table of one sheet, and by which factors the time rises.
+fn table(agreement: &mut Agreement, sheet: Sheet, what: &str, fewer: usize) {
+    println!("Times of one listing of {what}, in microseconds, {REPETITIONS} repetitions of each:\n");
     println!("| arcs | bytes | natharqo, median | plain, median | ratio | natharqo, least | plain, least | ratio |");
     println!("|---|---|---|---|---|---|---|---|");
     let mut all = Vec::new();
-    for islands in SIZES {
-        let size = agreement.hold(islands, 1);
+    for most in SIZES {
+        let arcs = most - fewer;
+        let size = agreement.hold(sheet, arcs, 1);
         let mut out = vec![0; size];
-        let (natharqo, plain) = measured(islands, &mut out);
+        let (natharqo, plain) = measured(sheet, arcs, &mut out);
         println!(
-            "| {islands} | {size} | {:.1} | {:.1} | {:.2} | {:.1} | {:.1} | {:.2} |",
+            "| {arcs} | {size} | {:.1} | {:.1} | {:.2} | {:.1} | {:.1} | {:.2} |",
             1e6 * natharqo.median,
             1e6 * plain.median,
             natharqo.median / plain.median,
@@ -239,12 +291,35 @@ fn main() {
         all.push((size as f64, natharqo, plain));
     }
     let ((bytes, natharqo, plain), (more_bytes, natharqo_more, plain_more)) = (&all[0], &all[all.len() - 1]);
-    println!("\nFrom {} to {} arcs, 16 times as many, there are {:.1} times as many bytes. The time rises by these factors:\n", SIZES[0], SIZES[SIZES.len() - 1], more_bytes / bytes);
+    println!(
+        "\nFrom {} to {} arcs, 16 times as many, there are {:.1} times as many bytes. The time rises by these factors:\n",
+        SIZES[0] - fewer,
+        SIZES[SIZES.len() - 1] - fewer,
+        more_bytes / bytes
+    );
     println!("| | median | least |");
     println!("|---|---|---|");
     println!("| natharqo | {:.1} | {:.1} |", natharqo_more.median / natharqo.median, natharqo_more.least / natharqo.least);
-    println!("| plain | {:.1} | {:.1} |", plain_more.median / plain.median, plain_more.least / plain.least);
-    println!("\n{} texts compared, {} differing.", agreement.compared, agreement.differing);
+    println!("| plain | {:.1} | {:.1} |\n", plain_more.median / plain.median, plain_more.least / plain.least);
+}
+
+fn main() {
+    let mut agreement = Agreement::default();
+    for again in [0, 1, 2] {
+        for islands in 0..=130 {
+            agreement.hold(Sheet::Nested, islands, again);
+        }
+        for arcs in 2..=130 {
+            agreement.hold(Sheet::Path, arcs, again);
+        }
+    }
+    for (sheet, arcs) in [(Sheet::Nested, 16_385), (Sheet::Path, 16_384)] {
+        let mut out = [b'!'; 100];
+        agreement.note("one arc too many", arcs, natharqo::list(sheet, arcs, 0, &mut out) == u64::MAX && out == [b'!'; 100]);
+    }
+    table(&mut agreement, Sheet::Nested, "a map of nested islands", 0);
+    table(&mut agreement, Sheet::Path, "a path of arcs, one ring through all sides", 1);
+    println!("{} texts compared, {} differing.", agreement.compared, agreement.differing);
     if agreement.differing != 0 {
         std::process::exit(1);
     }

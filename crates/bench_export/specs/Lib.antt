@@ -3,3 +3,4 @@ pub mod Nestings
 pub mod Sheets
 pub mod Telling
 pub mod Pairs
+pub mod Paths

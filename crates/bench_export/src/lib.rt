@@ -6,6 +6,7 @@ ghost use Rattle.bench_export.specs.Meetings.{among, arcs_meeting, refused_count
 
 pub mod nests;
 pub mod pairs;
+pub mod paths;
 pub mod sheets;
 pub mod told;
 

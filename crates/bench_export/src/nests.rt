@@ -37,7 +37,7 @@ fn add_nested(map: &mut Map<'_>, islands: usize) -> Result<(), Refusal>
 
 // Lists a map, and before that so many times more.
 // Stays: it is done so many times, and nothing is gone through; `for_each` over the same range, with a closure that writes the text, is no plainer.
-fn list_again(map: &Map<'_>, again: usize, out: &mut [u8]) -> Result<usize, Refusal>
+pub(crate) fn list_again(map: &Map<'_>, again: usize, out: &mut [u8]) -> Result<usize, Refusal>
     ensures answer { result ≡ text_outcome (listing (state_of map.now)) (length out.old) }
     ensures leaves { out.new ≡ text_leaves (listing (state_of map.now)) out.old }
 {
