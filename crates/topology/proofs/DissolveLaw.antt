@@ -1,13 +1,11 @@
 -- A dissolve keeps the law, and two rings become one.
-use Rattle.std.proofs.Common.{◌≡◌, ℕ, suc, ◌+◌, ◌-◌, ◌<◌, ◌≤◌, true, false, cond, not, eqb, min, ◌⊎◌, ◌&&◌, ◌||◌, List, map, length, get_or, sym, ap, ◌∙◌, subst, arith, ◌∷◌, ◌++◌, inl, inr}
-use Rattle.std.proofs.lemmas.Bool.{cases_eq, cases_lt, cases_Bool}
+use Rattle.std.proofs.Common.{◌≡◌, ℕ, suc, ◌+◌, ◌-◌, ◌<◌, ◌≤◌, true, false, not, eqb, min, ◌⊎◌, ◌&&◌, ◌||◌, List, map, length, get_or, sym, ap, ◌∙◌, subst, arith, ◌∷◌, ◌++◌, inl, inr}
+use Rattle.std.proofs.lemmas.Bool.{cases_eq, cases_lt}
 use Rattle.std.proofs.lemmas.Bool.Decides.{nat_tests}
 use Rattle.rings.specs.Circles.{walk, ring, rings, meets, one_if}
-use Rattle.rings.specs.Law.{opp, turn}
+use Rattle.rings.specs.Law.{turn}
 use Rattle.rings.specs.LetIn.{without}
-use Rattle.rings.proofs.Renamed.{ring_renamed}
-use Rattle.rings.proofs.Split.{opp_low}
-use Rattle.rings.proofs.Exchange.{exchanged_twice, exchanged_opp, exchanged_last_unturned, exchanged_last_turned}
+use Rattle.rings.proofs.Exchange.{exchanged_twice, exchanged_last_unturned, exchanged_last_turned}
 use Rattle.rings.specs.Edits.{exchanged, fill}
 use Rattle.rings.proofs.LastOut.{meets_less}
 use Rattle.topology.specs.declared.side.Side.{Side}
@@ -15,20 +13,14 @@ use Rattle.topology.specs.declared.vertex.Vertex.{Vertex}
 use Rattle.topology.specs.Rows.{no_vertex, next_of, node_of, polygon_of, row_of, start_of}
 use Rattle.topology.specs.MapLaw.{EndsTogether, RunsStand}
 use Rattle.topology.specs.Lawfuls.{Lawful}
-use Rattle.topology.specs.Lifts.{closed_alone, ring_left, lifted_sides, polygons_left}
-use Rattle.topology.specs.Dissolves.{share_ring, both_alone, freed, merged_number}
-use Rattle.topology.proofs.LiftLaw.{lift_lawful, lift_rings, σ-low, not_gone, row_is, next_is, node_is, polygon_is, after}
+use Rattle.topology.specs.Lifts.{closed_alone, ring_left, lifted_sides, polygons_left, merged_number}
+use Rattle.topology.specs.Dissolves.{share_ring, both_alone, freed}
+use Rattle.topology.proofs.LiftLaw.{lift_lawful, lift_rings, σ-low, not_gone, row_is, next_is, node_is, lift_ring, lift_turn, lift_polygons, lift_polygon_gone}
 use Rattle.topology.proofs.FreedLaw.{freed_lawful, freed_alone, freed_left, freed_long, freed_meets, vertices_long, at_s, at_o, in_rings₁, in_turns₁, count₁, node_else, row_same, row_s, polygon_s, polygon_o, polygon_merged, freed_first, freed_ring, freed_other, freed_turn}
 
--- a number is told anew as the outcome of a dissolve has it
-merged_after : (p q polygons x : ℕ) → p < polygons → q < polygons → x < polygons → after p q polygons x ≡ merged_number p q polygons x
-merged_after p q polygons x lp lq lx = grind (arith, nat_tests)
-
-lower_after : (p q polygons x : ℕ) → p < polygons → q < polygons → (x ≡ p) ⊎ (x ≡ q) → after p q polygons (min p q) ≡ merged_number p q polygons x
-lower_after p q polygons x lp lq e = grind (arith, nat_tests)
-
-gone_or_not : (p q polygons : ℕ) → p < polygons → cond (eqb p q) polygons (polygons - 1) + one_if (not (eqb p q)) ≡ polygons
-gone_or_not p q polygons lp = elim (cases_Bool (eqb p q)) [ inl e ↦ rw e (omega arith) | inr e ↦ rw e (omega arith) ]
+-- the lower of the two and either of them become one number
+merged_same : (p q polygons x : ℕ) → (x ≡ p) ⊎ (x ≡ q) → merged_number p q polygons (min p q) ≡ merged_number p q polygons x
+merged_same p q polygons x e = grind (arith, nat_tests)
 
 pub fill_itself : (n m x : ℕ) → n ≡ m → fill n m x ≡ x
 fill_itself n m x e = grind (arith, nat_tests)
@@ -147,14 +139,11 @@ module _ (us : List Side) (vs : List Vertex) (nodes polygons z a : ℕ) (long : 
   abbrev h : ℕ → ℕ
   h = next_of us₁
 
-  leads₂ : (k : ℕ) → k < m → h (σ k) ≡ σ (next_of us₂ k)
-  leads₂ k l = sym (ap σ (next_is us₁ vs₁ (nodes + 1) polygons z a long₁ here L₁ alone₁ left₁ k l) ∙ exchanged_twice a z (h (σ k)))
-
   low₂ : (k : ℕ) → k < m → σ k < N
   low₂ k l = low k (omega arith)
 
   pub ring₂ : (k : ℕ) → k < m → ring (next_of us₂) m k ≡ map σ (ring h N (σ k))
-  ring₂ k l = ring_renamed σ σ h (next_of us₂) N m low₂ (λ j _. exchanged_twice a z j) leads₂ L₂.in_rings k l
+  ring₂ k l = lift_ring us₁ vs₁ (nodes + 1) polygons z a long₁ here L₁ alone₁ left₁ k l
 
   stays_below : (x : ℕ) → x < N → (x ≡ a + a → ⊥) → (x ≡ a + a + 1 → ⊥) → σ x < m
   stays_below x l ns nt =
@@ -182,8 +171,7 @@ module _ (us : List Side) (vs : List Vertex) (nodes polygons z a : ℕ) (long : 
   pub dissolve_turns : (k : ℕ) → k < m → ring (turn (next_of us₂)) m k ≡ map σ (without (a + a + 1) (without (a + a) (ring (turn (next_of us)) N (σ k))))
   dissolve_turns k l =
       let (ns, nt) = other k l in
-      ring_renamed σ σ (turn h) (turn (next_of us₂)) N m low₂ (λ j _. exchanged_twice a z j)
-      (λ j i. ap h (exchanged_opp a z j) ∙ leads₂ (opp j) (opp_low m j (omega arith) i)) L₂.in_turns k l
+      lift_turn us₁ vs₁ (nodes + 1) polygons z a long₁ here L₁ alone₁ left₁ k l
       ∙ ap (map σ) (freed_turn us vs nodes polygons z a long here L apart some (σ k) (low₂ k l) ns nt)
 
   abbrev p : ℕ
@@ -198,15 +186,13 @@ module _ (us : List Side) (vs : List Vertex) (nodes polygons z a : ℕ) (long : 
       let (ns, nt) = other k l in
       let i = polygon_s us vs nodes polygons z a long here L apart some in
       let j = polygon_o us vs nodes polygons z a long here L apart some in
-      let lp = L.polygons_known (a + a) (omega arith) in
-      let lq = L.polygons_known (a + a + 1) (omega arith) in
-      let lk = L.polygons_known (σ k) (low k (omega arith)) in
-      polygon_is us₁ vs₁ (nodes + 1) polygons z a long₁ here L₁ alone₁ left₁ k l
-      ∙ (ap (λ (b : ℕ). after b (polygon_of us₁ (a + a + 1)) polygons (polygon_of us₁ (σ k))) i
-      ∙ (ap (λ (b : ℕ). after p b polygons (polygon_of us₁ (σ k))) j
+      let x = polygon_of us₁ (σ k) in
+      lift_polygons us₁ vs₁ (nodes + 1) polygons z a long₁ here L₁ alone₁ left₁ k l
+      ∙ (ap (λ (b : ℕ). merged_number b (polygon_of us₁ (a + a + 1)) polygons x) i
+      ∙ (ap (λ (b : ℕ). merged_number p b polygons x) j
       ∙ elim (polygon_merged us vs nodes polygons z a long here L apart some (σ k) (low k (omega arith)) ns nt) [
-        | inl e ↦ ap (after p q polygons) e ∙ merged_after p q polygons (polygon_of us (σ k)) lp lq lk
-        | inr e ↦ ap (after p q polygons) e.0 ∙ lower_after p q polygons (polygon_of us (σ k)) lp lq e.1
+        | inl e ↦ ap (merged_number p q polygons) e
+        | inr e ↦ ap (merged_number p q polygons) e.0 ∙ merged_same p q polygons (polygon_of us (σ k)) e.1
       ]))
 
   -- one polygon fewer, where they were two
@@ -214,5 +200,5 @@ module _ (us : List Side) (vs : List Vertex) (nodes polygons z a : ℕ) (long : 
   dissolve_polygon_gone =
       let i = polygon_s us vs nodes polygons z a long here L apart some in
       let j = polygon_o us vs nodes polygons z a long here L apart some in
-      ap (λ (b : ℕ). cond (eqb b (polygon_of us₁ (a + a + 1))) polygons (polygons - 1) + one_if (not (eqb p q))) i
-      ∙ (ap (λ (b : ℕ). cond (eqb p b) polygons (polygons - 1) + one_if (not (eqb p q))) j ∙ gone_or_not p q polygons (L.polygons_known (a + a) (omega arith)))
+      sym (ap (λ (b : ℕ). P + one_if (not (eqb b (polygon_of us₁ (a + a + 1))))) i ∙ ap (λ (b : ℕ). P + one_if (not (eqb p b))) j)
+      ∙ lift_polygon_gone us₁ vs₁ (nodes + 1) polygons z a long₁ here L₁ alone₁ left₁

@@ -1,12 +1,14 @@
 -- A lift keeps the law.
-use Rattle.std.proofs.Common.{◌≡◌, ℕ, suc, ◌+◌, ◌-◌, ◌/◌, ◌%◌, ◌<◌, ◌≤◌, true, cond, eqb, ◌⊎◌, List, [], ◌∷◌, map, length, get_or, take, set, sym, refl, ap, ◌∙◌, subst, inl, inr, arith, min, max}
-use Rattle.std.proofs.lemmas.Bool.{ltb-true, cases_eq, cases_lt, eq-eqb, eqb-true, or_cases, cond-true}
+use Rattle.std.proofs.Common.{◌≡◌, ℕ, suc, ◌+◌, ◌-◌, ◌/◌, ◌%◌, ◌<◌, ◌≤◌, true, cond, eqb, ◌⊎◌, List, [], ◌∷◌, map, length, get_or, take, set, sym, refl, ap, ◌∙◌, subst, inl, inr, arith, min, max, not}
+use Rattle.std.proofs.lemmas.Bool.{ltb-true, cases_eq, cases_lt, cases_Bool, eq-eqb, eqb-true, or_cases, cond-true}
 use Rattle.std.proofs.lemmas.Bool.Decides.{nat_tests}
 use Rattle.std.proofs.lemmas.List.{get_or-map, get_or-take, get_or-set_same, get_or-set_other, length-set, length-take-le, length-map}
 use Rattle.rings.specs.Circles.{one_if, occ, names, rings, ring, walk, meets}
-use Rattle.rings.specs.Law.{turn, Ringed, Closes, Along}
+use Rattle.rings.specs.Law.{opp, turn, Ringed, Closes, Along}
 use Rattle.rings.specs.Edits.{swapped, exchanged, fill}
 use Rattle.rings.proofs.Ringed.{ringed_circles}
+use Rattle.rings.proofs.Renamed.{ring_renamed}
+use Rattle.rings.proofs.Split.{opp_low}
 use Rattle.rings.proofs.Closed.{within, one_image}
 use Rattle.rings.proofs.Occurs.{one_other, one_below, below_one}
 use Rattle.rings.proofs.OwnNode.{alone_own}
@@ -15,7 +17,7 @@ use Rattle.rings.proofs.Surgery.{names_from}
 use Rattle.rings.proofs.Words.{node_low}
 use Rattle.rings.proofs.LastOut.{ringed_less, turned_less, count_less, along_less, names_less, closes_less, nodes_less, meets_less}
 use Rattle.rings.proofs.Labels.{names_comp, occ_image, fill_once, few_labels, few_but_zero, label_there, along_image}
-use Rattle.rings.proofs.Exchange.{exchanged_twice, exchanged_low, exchanged_unturned, exchanged_turned, exchanged_last_unturned, exchanged_last_turned, exchanged_else, exchanged_even, exchanged_odd}
+use Rattle.rings.proofs.Exchange.{exchanged_twice, exchanged_opp, exchanged_low, exchanged_unturned, exchanged_turned, exchanged_last_unturned, exchanged_last_turned, exchanged_else, exchanged_even, exchanged_odd}
 use Rattle.topology.specs.declared.side.Side.{Side}
 use Rattle.topology.specs.declared.vertex.Vertex.{Vertex}
 use Rattle.topology.specs.declared.renumbering.Renumbering.{Renumbering}
@@ -23,7 +25,7 @@ use Rattle.topology.specs.Rows.{no_side, no_vertex, next_of, node_of, polygon_of
 use Rattle.topology.specs.MapLaw.{OnePolygon, OneTurn, PolygonsKnown, PolygonsHaveRings, EndsTogether, RunsStand, LowAlong, LowBelow, LowNames}
 use Rattle.topology.specs.Lawfuls.{Lawful}
 use Rattle.topology.specs.Renumbered.{polygon_filled, renumbered}
-use Rattle.topology.specs.Lifts.{closed_alone, other_under, ring_left, lift_numbers, lifted_sides, polygons_left}
+use Rattle.topology.specs.Lifts.{closed_alone, other_under, ring_left, lift_numbers, lifted_sides, polygons_left, merged_number}
 use Rattle.topology.proofs.Alone.{alone_rings, other_at}
 
 side_exchanged : (a z x : ℕ) → (x ≡ a + a → ⊥) → (x ≡ a + a + 1 → ⊥) → fill (a + a) (z + z) (fill (a + a + 1) (z + z + 1) x) ≡ exchanged a z x
@@ -81,8 +83,15 @@ lowered_below : (s x y l : ℕ) → lowered s x y l ≤ l
 lowered_below s x y l = grind (arith, nat_tests)
 
 -- the number of a polygon, where the higher of p and q goes: known, and where each number comes from
-abbrev pub after : ℕ → ℕ → ℕ → ℕ → ℕ
+abbrev after : ℕ → ℕ → ℕ → ℕ → ℕ
 after p q polygons x = fill (max p q) (cond (eqb p q) p (polygons - 1)) (fill (min p q) (max p q) x)
+
+-- as the outcome of a lift has it
+merged_after : (p q polygons x : ℕ) → p < polygons → q < polygons → x < polygons → after p q polygons x ≡ merged_number p q polygons x
+merged_after p q polygons x lp lq lx = grind (arith, nat_tests)
+
+gone_or_not : (p q polygons : ℕ) → p < polygons → cond (eqb p q) polygons (polygons - 1) + one_if (not (eqb p q)) ≡ polygons
+gone_or_not p q polygons lp = elim (cases_Bool (eqb p q)) [ inl e ↦ rw e (omega arith) | inr e ↦ rw e (omega arith) ]
 
 known_filled : (x p q polygons : ℕ) → x < polygons → p < polygons → q < polygons → after p q polygons x < cond (eqb p q) polygons (polygons - 1)
 known_filled x p q polygons lx lp lq = grind (arith, nat_tests)
@@ -294,7 +303,7 @@ module _ (us : List Side) (vs : List Vertex) (nodes polygons z a : ℕ) (long : 
   abbrev P' : ℕ
   P' = polygons_left us polygons a
 
-  pub polygon_is : (k : ℕ) → k < m → polygon_of us' k ≡ polygon_filled c (polygon_of us (σ k))
+  polygon_is : (k : ℕ) → k < m → polygon_of us' k ≡ polygon_filled c (polygon_of us (σ k))
   polygon_is k l = ap (λ (r : Side). r.polygon) (row_is k l)
 
   one_polygon' : OnePolygon us' m
@@ -518,3 +527,22 @@ module _ (us : List Side) (vs : List Vertex) (nodes polygons z a : ℕ) (long : 
   -- two rings fewer
   pub lift_rings : length (rings f N) ≡ length (rings g m) + 2
   lift_rings = count_less f z a here L.in_rings L.in_turns e0 e1 g next_is
+
+  -- ---- the rings and the turns, as lists, and the polygons
+
+  leads : (k : ℕ) → k < m → f (σ k) ≡ σ (g k)
+  leads k l = sym (ap σ (next_is k l) ∙ twice (f (σ k)))
+
+  pub lift_ring : (k : ℕ) → k < m → ring g m k ≡ map σ (ring f N (σ k))
+  lift_ring k l = ring_renamed σ σ f g N m (λ j i. σ-low j (omega arith)) (λ j _. twice j) leads in_rings' k l
+
+  pub lift_turn : (k : ℕ) → k < m → ring (turn g) m k ≡ map σ (ring (turn f) N (σ k))
+  lift_turn k l =
+      ring_renamed σ σ (turn f) (turn g) N m (λ j i. σ-low j (omega arith)) (λ j _. twice j) (λ j i. ap f (exchanged_opp a z j) ∙ leads (opp j) (opp_low m j (omega arith) i)) in_turns' k l
+
+  pub lift_polygons : (k : ℕ) → k < m → polygon_of us' k ≡ merged_number p q polygons (polygon_of us (σ k))
+  lift_polygons k l =
+      polygon_is k l ∙ merged_after p q polygons (polygon_of us (σ k)) p_low (L.polygons_known (a + a + 1) (omega arith)) (L.polygons_known (σ k) (σ-low k (omega arith)))
+
+  pub lift_polygon_gone : P' + one_if (not (eqb p q)) ≡ polygons
+  lift_polygon_gone = gone_or_not p q polygons p_low

@@ -1,18 +1,17 @@
 -- Dissolve: an arc goes, and the two rings of its sides become one.
-use Rattle.std.specs.Prelude.{◌≡◌, ℕ, zero, suc, ◌+◌, ◌-◌, ◌/◌, ◌<◌, Bool, false, cond, not, ◌&&◌, ◌||◌, List, ◌∷◌, ◌++◌, map, length, Ok, Err, Result, ◌==◌, ◌≢◌, nat_lt, slice_index_or, slice_set, min, max}
+use Rattle.std.specs.Prelude.{◌≡◌, ℕ, zero, suc, ◌+◌, ◌/◌, ◌<◌, Bool, false, cond, not, ◌&&◌, ◌||◌, List, ◌∷◌, ◌++◌, map, length, Ok, Err, Result, ◌==◌, ◌≢◌, nat_lt, slice_index_or, slice_set, min}
 use Rattle.refusal.specs.declared.Refusal.{Refusal}
 use Rattle.refusal.specs.declared.Refusal.TheVariants.{NoSuchElement, SidesShareRing, RingsAlone}
 use Rattle.rings.specs.Circles.{walk, ring, meets, one_if}
 use Rattle.rings.specs.Law.{turn}
 use Rattle.rings.specs.LetIn.{without}
-use Rattle.rings.specs.Edits.{exchanged}
 use Rattle.topology.specs.declared.side.Side.{Side}
 use Rattle.topology.specs.declared.table.Table.{Table}
 use Rattle.topology.specs.declared.merging.Merging.{Merging}
 use Rattle.topology.specs.Rows.{no_side, next_of, polygon_of, low_of}
 use Rattle.topology.specs.States.{State}
 use Rattle.topology.specs.Questions.{arc_count, rings_of}
-use Rattle.topology.specs.Lifts.{lifted}
+use Rattle.topology.specs.Lifts.{lifted, number_before, merged_number}
 use Rattle.topology.specs.Merged.{merged}
 use Rattle.topology.specs.Divisions.{lowest_of}
 
@@ -86,18 +85,9 @@ together m s t = meets (next_of m.sides) (length m.sides) s t
 abbrev pub beside : State → ℕ → ℕ → Bool
 beside m a s = together m (a + a) s || together m (a + a + 1) s
 
--- the number that side s had before arc a went, and the last arc took its number
-abbrev pub number_before : State → ℕ → ℕ → ℕ
-number_before was a s = exchanged a (arc_count was - 1) s
-
 -- the sides that come after s in its ring
 abbrev pub sides_after : State → ℕ → List ℕ
 sides_after m s = walk (next_of m.sides) (length m.sides) s s
-
--- the number that polygon x has once polygons p and q, of so many, are one: both have the lower, and where they are two, the last polygon takes
--- the number of the higher
-abbrev pub merged_number : ℕ → ℕ → ℕ → ℕ → ℕ
-merged_number p q polygons x = cond (x == p || x == q) (min p q) (cond (x == polygons - 1 && not (p == q)) (max p q) x)
 
 -- there is one ring fewer: two sides stand in one ring now exactly if they did before, or if each stood in the ring of one of arc a's sides;
 -- the one ring has the sides after one of them, then the sides after the other, and all other rings stand as they did; the turns stand as they

@@ -14,7 +14,7 @@ use Rattle.topology.specs.States.{State}
 use Rattle.topology.specs.Questions.{arc_count, rings_of}
 use Rattle.topology.specs.Islands.{vertex_room}
 use Rattle.topology.specs.Lifts.{lifted}
-use Rattle.topology.specs.Dissolves.{number_before}
+use Rattle.topology.specs.Lifts.{number_before}
 
 -- the sides that begin at a node, rising
 abbrev pub ends : List Side → ℕ → List ℕ

@@ -1,12 +1,15 @@
 -- Lift: a closed arc goes, with its node and both its rings.
-use Rattle.std.specs.Prelude.{ℕ, zero, suc, ◌+◌, ◌-◌, ◌/◌, Bool, true, false, cond, not, ◌&&◌, ◌||◌, List, map, length, take, Ok, Err, Result, ◌==◌, nat_lt, slice_index_or, slice_set, min, max}
+use Rattle.std.specs.Prelude.{◌≡◌, ℕ, zero, suc, ◌+◌, ◌-◌, ◌/◌, ◌<◌, Bool, true, false, cond, not, ◌&&◌, ◌||◌, List, map, length, take, Ok, Err, Result, ◌==◌, nat_lt, slice_index_or, slice_set, min, max}
 use Rattle.refusal.specs.declared.Refusal.{Refusal}
 use Rattle.refusal.specs.declared.Refusal.TheVariants.{NoSuchElement, ArcNotClosedAlone, PolygonLosesLastRing}
+use Rattle.rings.specs.Circles.{ring, one_if}
+use Rattle.rings.specs.Law.{turn}
+use Rattle.rings.specs.Edits.{exchanged}
 use Rattle.topology.specs.declared.side.Side.{Side}
 use Rattle.topology.specs.declared.renumbering.Renumbering.{Renumbering}
-use Rattle.topology.specs.Rows.{no_side, node_of, polygon_of, low_of}
+use Rattle.topology.specs.Rows.{no_side, next_of, node_of, polygon_of, low_of}
 use Rattle.topology.specs.States.{State}
-use Rattle.topology.specs.Questions.{arc_count}
+use Rattle.topology.specs.Questions.{arc_count, rings_of}
 use Rattle.topology.specs.Renumbered.{renumbered}
 
 -- no side below k, but those of arc a, begins where arc a begins
@@ -76,3 +79,25 @@ lift_outcome m a =
     cond (nat_lt a (arc_count m))
     (cond (closed_alone m.sides a) (cond (ring_left m.sides a) (Ok (lifted m a)) (Err PolygonLosesLastRing)) (Err ArcNotClosedAlone))
     (Err NoSuchElement)
+
+-- the number that side s had before arc a went, and the last arc took its number
+abbrev pub number_before : State → ℕ → ℕ → ℕ
+number_before was a s = exchanged a (arc_count was - 1) s
+
+-- the number that polygon x has once polygons p and q, of so many, are one: both have the lower, and where they are two, the last polygon takes
+-- the number of the higher
+abbrev pub merged_number : ℕ → ℕ → ℕ → ℕ → ℕ
+merged_number p q polygons x = cond (x == p || x == q) (min p q) (cond (x == polygons - 1 && not (p == q)) (max p q) x)
+
+-- there are two rings fewer, those of the arc's sides, and all others stand as they did; so do the turns; the two polygons are one, and where they
+-- were two, there is one fewer
+pub record RingsLifted (was is : State) (a : ℕ) : Type 0 where
+  pub fewer : length (rings_of is) + 2 ≡ length (rings_of was)
+  pub rings : (k : ℕ) → k < length is.sides →
+      ring (next_of is.sides) (length is.sides) k ≡ map (number_before was a) (ring (next_of was.sides) (length was.sides) (number_before was a k))
+  pub turns : (k : ℕ) → k < length is.sides →
+      ring (turn (next_of is.sides)) (length is.sides) k ≡ map (number_before was a) (ring (turn (next_of was.sides)) (length was.sides) (number_before was a k))
+  pub polygon_gone : is.polygons + one_if (not (polygon_of was.sides (a + a) == polygon_of was.sides (a + a + 1))) ≡ was.polygons
+  pub polygons : (k : ℕ) → k < length is.sides →
+      polygon_of is.sides k
+      ≡ merged_number (polygon_of was.sides (a + a)) (polygon_of was.sides (a + a + 1)) was.polygons (polygon_of was.sides (number_before was a k))

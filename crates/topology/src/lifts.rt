@@ -1,10 +1,10 @@
 ghost use Rattle.std.specs.Prelude.{◌≡◌, ℕ, ◌+◌, ◌-◌, ◌/◌, ◌%◌, ◌<◌, ◌≤◌, true, ◌&&◌, map, length, take, if◌then◌else◌, OnOk, nat_eq};
 ghost use Rattle.topology.specs.States.{state_of};
 ghost use Rattle.topology.specs.Edited.{Edited, Done};
-ghost use Rattle.topology.specs.Questions.{about_arc, arc_count, rings_of, Rises};
+ghost use Rattle.topology.specs.Questions.{about_arc, arc_count, Rises};
 ghost use Rattle.topology.specs.Tables.{Holds};
 ghost use Rattle.topology.specs.Renumbered.{renumbered};
-ghost use Rattle.topology.specs.Lifts.{closed_alone, other_under, ring_left, lift_numbers, rows_without, lifted_sides, polygons_left, lift_outcome};
+ghost use Rattle.topology.specs.Lifts.{closed_alone, other_under, ring_left, lift_numbers, rows_without, lifted_sides, polygons_left, lift_outcome, RingsLifted};
 ghost use Rattle.topology.specs.Dissolves.{both_alone};
 
 use super::map::Map;
@@ -122,7 +122,7 @@ impl<'a> Map<'a> {
         requires alone { closed_alone (state_of self.old).sides arc ≡ true }
         requires leaves { ring_left (state_of self.old).sides arc ≡ true }
         ensures done { Done (λ m. lift_outcome m arc) self.old self.new }
-        ensures rings { length (rings_of (state_of self.new)) + 2 ≡ length (rings_of (state_of self.old)) }
+        ensures rings { RingsLifted (state_of self.old) (state_of self.new) arc }
         ensures nodes { self.new.nodes + 1 ≡ self.old.nodes }
         ensures sides { self.new.sides.used + 2 ≡ self.old.sides.used }
     {
@@ -134,6 +134,7 @@ impl<'a> Map<'a> {
     /// 20 for no such arc; then 23 when the arc is not closed at a node of its own; then 24 when the polygon that is left is not 0 and would have no ring.
     pub fn lift(&mut self, arc: usize) -> Result<(), Refusal>
         ensures edited { Edited (λ m. lift_outcome m arc) self.old self.new result }
+        ensures rings { OnOk result (RingsLifted (state_of self.old) (state_of self.new) arc) }
         ensures sum { OnOk result (Rises 2 (state_of self.new) (state_of self.old)) }
     {
         if !self.is_closed_alone(arc)? {

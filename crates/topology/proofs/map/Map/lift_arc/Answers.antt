@@ -1,7 +1,7 @@
 use Rattle.std.proofs.Common.{arith}
 use Rattle.std.proofs.lemmas.List.{length-take-le}
 use Rattle.topology.proofs.TakenOut.{taken_used}
-use Rattle.topology.proofs.LiftDone.{some_node, lift_few, lift_law, lift_fewer}
+use Rattle.topology.proofs.LiftDone.{some_node, lift_few, lift_law, lift_lifted}
 use Rattle.topology.proofs.map.Map.lift_arc.Goals as goal
 
 pub take_out-self-requires-clause-some_node : goal.take_out-self-requires-clause-some_node
@@ -20,7 +20,7 @@ invariant_of-self c =
 
 pub returns-clause-rings : goal.returns-clause-rings
 returns-clause-rings c =
-    lift_fewer c.args.self.now c.take_out-self.new.self c.args.arc _ c.requires.here c.requires.alone c.requires.leaves c.take_out-self.ensures.rows c.take_out-self.ensures.left
+    lift_lifted c.args.self.now c.take_out-self.new.self c.args.arc _ c.requires.here c.requires.alone c.requires.leaves c.take_out-self.ensures.rows c.take_out-self.ensures.left
 
 pub returns-clause-nodes : goal.returns-clause-nodes
 returns-clause-nodes c = let h = some_node c.args.self.now c.args.arc c.requires.here in omega (arith, h)
