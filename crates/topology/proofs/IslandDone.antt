@@ -1,19 +1,20 @@
 -- A map whose tables have grown by an island's rows.
-use Rattle.std.proofs.Common.{◌≡◌, ℕ, ◌+◌, ◌-◌, ◌<◌, ◌≤◌, true, ◌&&◌, List, [], ◌∷◌, ◌++◌, length, take, sym, ap, ◌∙◌, arith}
+use Rattle.std.proofs.Common.{◌≡◌, ℕ, ◌+◌, ◌-◌, ◌<◌, ◌≤◌, true, ◌&&◌, List, [], ◌∷◌, ◌++◌, length, take, suc, sym, refl, ap, ◌∙◌, subst, arith}
 use Rattle.std.proofs.lemmas.List.{length-take-le}
 use Rattle.topology.specs.declared.side.Side.{Side}
 use Rattle.topology.specs.declared.vertex.Vertex.{Vertex}
 use Rattle.topology.specs.declared.table.Table.{Table}
 use Rattle.topology.specs.declared.map.Map.{Map}
-use Rattle.rings.specs.Circles.{rings}
-use Rattle.topology.specs.Rows.{next_of}
+use Rattle.rings.specs.Circles.{ring, rings}
+use Rattle.rings.specs.Law.{turn}
+use Rattle.topology.specs.Rows.{next_of, polygon_of}
 use Rattle.topology.specs.States.{state_of}
 use Rattle.topology.specs.Tables.{Grown}
 use Rattle.topology.specs.Lawfuls.{Lawful}
-use Rattle.topology.specs.Islands.{closed_run, arc_room, vertex_room, unturned, turned}
+use Rattle.topology.specs.Islands.{closed_run, arc_room, vertex_room, unturned, turned, IslandAdded}
 use Rattle.topology.proofs.Growth.{grown_twice, grown_used}
-use Rattle.topology.proofs.Assembling.{lawful_at, lawful_of, room_told}
-use Rattle.topology.proofs.IslandLaw.{island_lawful, island_rings}
+use Rattle.topology.proofs.Assembling.{lawful_at, lawful_of, state_from, room_told}
+use Rattle.topology.proofs.IslandLaw.{island_lawful, island_rings, island_ring, island_turn, unturned_alone, turned_alone, island_own_turn, unturned_polygon, turned_polygon, old_polygon}
 
 -- the rows of an island, as the code makes them
 unturned_row : (m : Map) → unturned m.sides.used m.nodes m.vertices.used m.polygons ≡ unturned (length (state_of m).sides) m.nodes (length (state_of m).vertices) m.polygons
@@ -78,3 +79,30 @@ module _ (m : Map) (t s : Table Side) (v : Table Vertex) (p : ℕ) (run : List V
   island_more =
       ap (λ (k : ℕ). length (rings (next_of (take s.used s.rows.now)) k)) (length-take-le s.used s.rows.now s.fits ∙ used_are)
       ∙ (ap (λ (x : List Side). length (rings (next_of x) (length us + 2))) sides_are ∙ island_rings us vs run m.nodes m.polygons p (lawful_of m) known fit)
+
+  abbrev n : ℕ
+  n = length us
+
+  abbrev is : List Side
+  is = take s.used s.rows.now
+
+  -- from the rows with the two more to those of the table
+  moved : (P : List Side → ℕ → Type 0) → P (us ++ a' ∷ b' ∷ []) (n + 2) → P is (length is)
+  moved P h = subst (λ (x : List Side). P x (length is)) (sym sides_are) (subst (P (us ++ a' ∷ b' ∷ [])) (sym (length-take-le s.used s.rows.now s.fits ∙ used_are)) h)
+
+  -- which rings and turns there are, and the polygon of each side
+  pub island_added : IslandAdded (state_of m) (state_from m.hand s v (m.nodes + 1) (m.polygons + 1)) p
+  island_added =
+      let l = lawful_of m in
+      record {
+        two_more = island_more;
+        unturned_ring = moved (λ x k. ring (next_of x) k n ≡ n ∷ []) (unturned_alone us vs run m.nodes m.polygons p l known fit);
+        turned_ring = moved (λ x k. ring (next_of x) k (suc n) ≡ suc n ∷ []) (turned_alone us vs run m.nodes m.polygons p l known fit);
+        rings = λ j i. moved (λ x k. ring (next_of x) k j ≡ ring (next_of us) n j) (island_ring us vs run m.nodes m.polygons p l known fit j i);
+        own_turn = moved (λ x k. ring (turn (next_of x)) k n ≡ n ∷ suc n ∷ []) (island_own_turn us vs run m.nodes m.polygons p l known fit);
+        turns = λ j i. moved (λ x k. ring (turn (next_of x)) k j ≡ ring (turn (next_of us)) n j) (island_turn us vs run m.nodes m.polygons p l known fit j i);
+        one_more_polygon = refl;
+        unturned_under = moved (λ x k. polygon_of x n ≡ m.polygons) (unturned_polygon us vs run m.nodes m.polygons p l known fit);
+        turned_under = moved (λ x k. polygon_of x (suc n) ≡ p) (turned_polygon us vs run m.nodes m.polygons p l known fit);
+        others_under = λ j i. moved (λ x k. polygon_of x j ≡ polygon_of us j) (old_polygon us vs run m.nodes m.polygons p l known fit j i);
+      }

@@ -1,14 +1,18 @@
 -- An island keeps the law, and adds two rings.
 use Rattle.std.proofs.Common.{◌≡◌, ℕ, suc, ◌+◌, ◌-◌, ◌/◌, ◌%◌, ◌<◌, ◌≤◌, true, false, ◌&&◌, eqb, ltb, leb, ◌⊎◌, List, [], ◌∷◌, ◌++◌, length, get_or, sym, refl, ap, ◌∙◌, subst, inl, inr, add-one, arith}
 use Rattle.std.proofs.lemmas.Bool.{cases_eq, cases_lt, and_parts, leb-true, lt-ltb, le-ltb, eq-eqb, true_from_ne_false, both_ways}
-use Rattle.std.proofs.lemmas.List.{get_or_append_left, get_or-append_right, length-append}
+use Rattle.std.proofs.lemmas.Bool.Decides.{nat_tests}
+use Rattle.std.proofs.lemmas.List.{get_or_append_left, get_or-append_right, length-append, map-id}
 use Rattle.std.proofs.lemmas.List.Folds.{list_all_at}
-use Rattle.rings.specs.Circles.{one_if, occ, names, put, rings}
-use Rattle.rings.specs.Law.{turn, Ringed, Closes, Along, Noded}
+use Rattle.rings.specs.Circles.{one_if, occ, names, put, ring, rings}
+use Rattle.rings.specs.Law.{opp, turn, Ringed, Closes, Along, Noded}
 use Rattle.rings.specs.Edits.{island_next, island_node, island_polygon}
 use Rattle.rings.proofs.Occurs.{one_same, one_other}
 use Rattle.rings.proofs.Island.{IslandKeeps, island_keeps, island_names, label_n, label_top, label_old, node_n, node_top, node_old}
 use Rattle.rings.proofs.Words.{node_low}
+use Rattle.rings.proofs.Listing.{ring_is}
+use Rattle.rings.proofs.Renamed.{ring_renamed}
+use Rattle.rings.proofs.Split.{opp_low, opp_new, opp_top}
 use Rattle.topology.specs.declared.side.Side.{Side}
 use Rattle.topology.specs.declared.vertex.Vertex.{Vertex}
 use Rattle.topology.specs.Rows.{no_vertex, next_of, node_of, polygon_of, row_of, low_of, good, same_place, start_of}
@@ -283,3 +287,51 @@ module _ (us : List Side) (vs run : List Vertex) (nodes polygons p : ℕ) (L : L
   -- two rings more
   pub island_rings : length (rings (next_of us') (n + 2)) ≡ length (rings (next_of us) n) + 2
   island_rings = ap (λ (g : ℕ → ℕ). length (rings g (n + 2))) next_is ∙ K.count
+
+  -- ---- the rings and the turns, as lists, and the polygons
+
+  abbrev f : ℕ → ℕ
+  f = next_of us
+
+  abbrev g : ℕ → ℕ
+  g = island_next f n
+
+  old : (k : ℕ) → k < n → g k ≡ f k
+  old = label_old f n n (suc n)
+
+  one_of : (s k : ℕ) → s < n + 2 → one_if (eqb k s) + 0 ≤ one_if (ltb k (n + 2))
+  one_of s k l = grind (arith, nat_tests)
+
+  pub island_ring : (k : ℕ) → k < n → ring (next_of us') (n + 2) k ≡ ring f n k
+  island_ring k l =
+      ap (λ (h : ℕ → ℕ). ring h (n + 2) k) next_is
+      ∙ sym (ring_renamed (λ x. x) (λ x. x) g f (n + 2) n (λ j i. omega arith) (λ j _. refl) old L.in_rings k l ∙ map-id (ring g (n + 2) k))
+
+  pub island_turn : (k : ℕ) → k < n → ring (turn (next_of us')) (n + 2) k ≡ ring (turn f) n k
+  island_turn k l =
+      ap (λ (h : ℕ → ℕ). ring (turn h) (n + 2) k) next_is
+      ∙ sym
+      (ring_renamed (λ x. x) (λ x. x) (turn g) (turn f) (n + 2) n (λ j i. omega arith) (λ j _. refl) (λ j i. old (opp j) (opp_low n j L.paired i)) L.in_turns k l ∙ map-id (ring (turn g) (n + 2) k))
+
+  pub unturned_alone : ring (next_of us') (n + 2) n ≡ n ∷ []
+  unturned_alone = ap (λ (h : ℕ → ℕ). ring h (n + 2) n) next_is ∙ ring_is g (n + 2) n [] (label_n f n n (suc n)) (λ k. one_of n k (omega arith))
+
+  pub turned_alone : ring (next_of us') (n + 2) (suc n) ≡ suc n ∷ []
+  turned_alone = ap (λ (h : ℕ → ℕ). ring h (n + 2) (suc n)) next_is ∙ ring_is g (n + 2) (suc n) [] (label_top f n n (suc n)) (λ k. one_of (suc n) k (omega arith))
+
+  two_of : (k : ℕ) → one_if (eqb k n) + (one_if (eqb k (suc n)) + 0) ≤ one_if (ltb k (n + 2))
+  two_of k = grind (arith, nat_tests)
+
+  pub island_own_turn : ring (turn (next_of us')) (n + 2) n ≡ n ∷ suc n ∷ []
+  island_own_turn =
+      ap (λ (h : ℕ → ℕ). ring (turn h) (n + 2) n) next_is
+      ∙ ring_is (turn g) (n + 2) n (suc n ∷ []) (ap g (opp_new n L.paired) ∙ label_top f n n (suc n), ap g (opp_top n L.paired) ∙ label_n f n n (suc n)) two_of
+
+  pub unturned_polygon : polygon_of us' n ≡ polygons
+  unturned_polygon = ap (λ (h : ℕ → ℕ). h n) polygon_is ∙ label_n (polygon_of us) n polygons p
+
+  pub turned_polygon : polygon_of us' (suc n) ≡ p
+  turned_polygon = ap (λ (h : ℕ → ℕ). h (suc n)) polygon_is ∙ label_top (polygon_of us) n polygons p
+
+  pub old_polygon : (k : ℕ) → k < n → polygon_of us' k ≡ polygon_of us k
+  old_polygon k l = ap (λ (h : ℕ → ℕ). h k) polygon_is ∙ label_old (polygon_of us) n polygons p k l

@@ -1,8 +1,8 @@
 ghost use Rattle.std.specs.Prelude.{◌≡◌, ℕ, ◌+◌, ◌-◌, ◌<◌, ◌≤◌, true, ◌&&◌, length, OnOk};
 ghost use Rattle.topology.specs.States.{state_of};
 ghost use Rattle.topology.specs.Edited.{Edited, Done};
-ghost use Rattle.topology.specs.Questions.{rings_of, Rises};
-ghost use Rattle.topology.specs.Islands.{closed_run, arc_room, vertex_room, island_outcome};
+ghost use Rattle.topology.specs.Questions.{Rises};
+ghost use Rattle.topology.specs.Islands.{closed_run, arc_room, vertex_room, island_outcome, IslandAdded};
 
 use super::map::Map;
 use super::runs::closes;
@@ -34,7 +34,7 @@ impl<'a> Map<'a> {
         requires closed { closed_run run.now ≡ true }
         requires room { (arc_room (state_of self.old) && vertex_room (state_of self.old) (length run.now)) ≡ true }
         ensures done { Done (λ m. island_outcome m polygon run.now) self.old self.new }
-        ensures rings { length (rings_of (state_of self.new)) ≡ length (rings_of (state_of self.old)) + 2 }
+        ensures rings { IslandAdded (state_of self.old) (state_of self.new) polygon }
         ensures nodes { self.new.nodes ≡ self.old.nodes + 1 }
         ensures sides { self.new.sides.used ≡ self.old.sides.used + 2 }
     {
@@ -66,6 +66,7 @@ impl<'a> Map<'a> {
     /// 20 for no such polygon; then 21 for under four vertices, ends apart or a coordinate that is not finite; then 22 for no room for the arc or the run.
     pub fn island(&mut self, polygon: usize, run: &[Vertex]) -> Result<(), Refusal>
         ensures edited { Edited (λ m. island_outcome m polygon run.now) self.old self.new result }
+        ensures rings { OnOk result (IslandAdded (state_of self.old) (state_of self.new) polygon) }
         ensures sum { OnOk result (Rises 2 (state_of self.old) (state_of self.new)) }
     {
         if polygon >= self.polygons {

@@ -1,4 +1,4 @@
-use Rattle.topology.proofs.IslandDone.{island_few, island_law, island_more}
+use Rattle.topology.proofs.IslandDone.{island_few, island_law, island_added}
 use Rattle.topology.proofs.map.Map.add_island.Goals as goal
 
 pub invariant_of-self : goal.invariant_of-self
@@ -18,5 +18,5 @@ invariant_of-self c =
 
 pub returns-clause-rings : goal.returns-clause-rings
 returns-clause-rings c =
-    island_more c.args.self.now c.push.new.self c.push-2.new.self c.push_run.new.self c.args.polygon c.args.run.now c.requires.known c.requires.closed c.requires.room c.push.ensures
+    island_added c.args.self.now c.push.new.self c.push-2.new.self c.push_run.new.self c.args.polygon c.args.run.now c.requires.known c.requires.closed c.requires.room c.push.ensures
     c.push-2.ensures c.push_run.ensures
