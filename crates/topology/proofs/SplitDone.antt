@@ -18,7 +18,7 @@ use Rattle.topology.specs.Islands.{arc_room, vertex_room}
 use Rattle.topology.specs.Splits.{inside, split_sides, split, split_outcome, Parts}
 use Rattle.topology.proofs.Growth.{held_used, grown_used}
 use Rattle.topology.proofs.Assembling.{lawful_at, lawful_of, state_from, room_told}
-use Rattle.topology.proofs.SplitLaw.{split_lawful, rings_after, new_turn_after, turns_after, ends_after, front_after, back_after, others_after}
+use Rattle.topology.proofs.SplitLaw.{split_lawful, rings_after, new_turn_after, turns_after, ends_after, front_after, back_after, others_after, unturned_polygon, turned_polygon, old_polygon}
 
 -- how many sides there are then
 pub parted_long : (us : List Side) (node a row : ℕ) → length (split_sides us node a row) ≡ length us + 2
@@ -87,6 +87,10 @@ module _ (m : Map) (a k : ℕ) (here : a < arc_count (state_of m)) (ins : inside
         front = front_after us vs m.nodes m.polygons a k p L both_sides l e within.0 before_last;
         back = back_after us vs m.nodes m.polygons a k p L both_sides l e within.0 before_last;
         others = others_after us vs m.nodes m.polygons a k p L both_sides l e within.0 before_last;
+        as_many_polygons = refl;
+        unturned_under = unturned_polygon us vs m.nodes m.polygons a k p L both_sides l e within.0 before_last;
+        turned_under = turned_polygon us vs m.nodes m.polygons a k p L both_sides l e within.0 before_last;
+        others_under = old_polygon us vs m.nodes m.polygons a k p L both_sides l e within.0 before_last;
       }
 
   module _ (s : Table Side) (v : Table Vertex) (i : ℕ) (x : Vertex) (room : (arc_room (state_of m) && vertex_room (state_of m) 1) ≡ true)

@@ -58,6 +58,15 @@ module _ (h : ℕ → ℕ) (n o new : ℕ) (lo : o < n) where
 label_low : (h : ℕ → ℕ) (n s o c x : ℕ) → h s < c → h o < c → (x < n → h x < c) → x < n + 2 → split_polygon h n s o x < c
 label_low h n s o c x ls lo l b = grind (arith, nat_tests)
 
+label_first : (h : ℕ → ℕ) (n s o : ℕ) → split_polygon h n s o n ≡ h s
+label_first h n s o = grind (arith, nat_tests)
+
+label_second : (h : ℕ → ℕ) (n s o : ℕ) → split_polygon h n s o (suc n) ≡ h o
+label_second h n s o = grind (arith, nat_tests)
+
+label_same : (h : ℕ → ℕ) (n s o x : ℕ) → x < n → split_polygon h n s o x ≡ h x
+label_same h n s o x l = grind (arith, nat_tests)
+
 module _ (us : List Side) (vs : List Vertex) (nodes polygons a k p : ℕ) (L : Lawful us vs (length us) nodes polygons) (here : a + a + 1 < length us)
     (lp : p < length us) (leads : next_of us p ≡ a + a + 1) (k0 : 0 < k) (kl : row_of us (a + a) + k < row_of us (a + a + 1)) where
   abbrev n : ℕ
@@ -363,3 +372,14 @@ module _ (us : List Side) (vs : List Vertex) (nodes polygons a k p : ℕ) (L : L
     ap (λ (h : ℕ → ℕ). h n) node_as ∙ node_n (node_of us) n (opp s) nodes lo,
     ap (λ (h : ℕ → ℕ). h (suc n)) node_as ∙ (node_top (node_of us) n (opp s) nodes lo ∙ ap (node_of us) other_side),
   )
+
+  -- ---- the polygons
+
+  pub unturned_polygon : polygon_of us' n ≡ polygon_of us s
+  unturned_polygon = ap (λ (h : ℕ → ℕ). h n) pol_as ∙ label_first (polygon_of us) n s (opp s)
+
+  pub turned_polygon : polygon_of us' (suc n) ≡ polygon_of us o
+  turned_polygon = ap (λ (h : ℕ → ℕ). h (suc n)) pol_as ∙ (label_second (polygon_of us) n s (opp s) ∙ ap (polygon_of us) other_side)
+
+  pub old_polygon : (x : ℕ) → x < n → polygon_of us' x ≡ polygon_of us x
+  old_polygon x l = ap (λ (h : ℕ → ℕ). h x) pol_as ∙ label_same (polygon_of us) n s (opp s) x l

@@ -7,7 +7,7 @@ use Rattle.rings.specs.Law.{turn}
 use Rattle.rings.specs.Edits.{fill}
 use Rattle.rings.specs.LetIn.{let_in, split_after}
 use Rattle.topology.specs.declared.side.Side.{Side}
-use Rattle.topology.specs.Rows.{no_side, no_vertex, next_of, node_of, row_of}
+use Rattle.topology.specs.Rows.{no_side, no_vertex, next_of, node_of, polygon_of, row_of}
 use Rattle.topology.specs.States.{State}
 use Rattle.topology.specs.Questions.{arc_count, vertex_at, rings_of}
 use Rattle.topology.specs.Islands.{arc_room, vertex_room}
@@ -61,7 +61,8 @@ split_outcome m a k =
 -- What a split of arc a at vertex k means. The rings stand in their order, with the new unturned side let in after that of arc a and the
 -- new turned one before that of arc a; the turn about the new node has these two sides alone; in the turns about the other nodes the new
 -- turned side stands where that of arc a stood. Arc a ends and the new arc begins at the new node, and the new arc ends where arc a ended.
--- Arc a has its vertices up to k, the new arc has them from k on, and the other arcs have theirs.
+-- Arc a has its vertices up to k, the new arc has them from k on, and the other arcs have theirs. The new sides stand under the polygons of those
+-- of arc a, and all others under their own.
 pub record Parts (was is : State) (a k : ℕ) : Type 0 where
   pub rings : rings_of is ≡ map (let_in (split_after (next_of was.sides) (length was.sides) (a + a) (a + a + 1))) (rings_of was)
   pub new_turn : ring (turn (next_of is.sides)) (length is.sides) (length was.sides) ≡ length was.sides ∷ (a + a + 1) ∷ []
@@ -73,3 +74,7 @@ pub record Parts (was is : State) (a k : ℕ) : Type 0 where
   pub front : (j : ℕ) → vertex_at is a j ≡ cond (nat_le j k) (vertex_at was a j) (Err NoSuchElement)
   pub back : (j : ℕ) → vertex_at is (arc_count was) j ≡ vertex_at was a (k + j)
   pub others : (b j : ℕ) → b < arc_count was → (b ≢ a) → vertex_at is b j ≡ vertex_at was b j
+  pub as_many_polygons : is.polygons ≡ was.polygons
+  pub unturned_under : polygon_of is.sides (length was.sides) ≡ polygon_of was.sides (a + a)
+  pub turned_under : polygon_of is.sides (suc (length was.sides)) ≡ polygon_of was.sides (a + a + 1)
+  pub others_under : (s : ℕ) → s < length was.sides → polygon_of is.sides s ≡ polygon_of was.sides s
