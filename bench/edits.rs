@@ -3,7 +3,12 @@
 // Both make a sheet of islands and edit it in pairs: a division and a dissolve, or a split and a join. Times never fail the run; answers
 // that differ do.
 
+mod computed;
+mod times;
+
+use computed::seconds;
 use std::hint::black_box;
+use times::Times;
 
 const REPETITIONS: usize = 31;
 /// So many arcs are there while a pair is made, the new one among them.
@@ -169,7 +174,7 @@ mod plain {
     #[derive(Debug, PartialEq, Eq)]
     pub struct Refused(pub u32);
 
-    type Edited = Result<(), Refused>;
+    pub type Edited = Result<(), Refused>;
 
     fn opposite(side: u32) -> u32 {
         side ^ 1
@@ -528,44 +533,6 @@ mod plain {
     }
 }
 
-/// Seconds that this thread has computed, so that other work on the machine does not count.
-fn computed() -> f64 {
-    #[repr(C)]
-    struct Timespec {
-        seconds: i64,
-        nanoseconds: i64,
-    }
-    extern "C" {
-        fn clock_gettime(clock: i32, time: *mut Timespec) -> i32;
-    }
-    const THREAD_CPUTIME: i32 = 3;
-    let mut time = Timespec { seconds: 0, nanoseconds: 0 };
-    // SAFETY: the function writes one time.
-    assert_eq!(unsafe { clock_gettime(THREAD_CPUTIME, &mut time) }, 0);
-    time.seconds as f64 + 1e-9 * time.nanoseconds as f64
-}
-
-fn seconds(work: impl FnOnce()) -> f64 {
-    let start = computed();
-    work();
-    computed() - start
-}
-
-#[derive(Default)]
-struct Times(Vec<f64>);
-
-impl Times {
-    fn median(&self) -> f64 {
-        let mut sorted = self.0.clone();
-        sorted.sort_by(f64::total_cmp);
-        sorted[sorted.len() / 2]
-    }
-
-    fn least(&self) -> f64 {
-        self.0.iter().copied().fold(f64::INFINITY, f64::min)
-    }
-}
-
 /// Seconds for one pair.
 #[derive(Clone, Copy)]
 struct Measured {
@@ -655,41 +622,42 @@ impl Agreement {
         }
     }
 
-    /// Pairs that are taken, at arcs that look random, and now and then one that is refused after them.
-    fn hold_chords(&mut self, sheet: &Sheet, numbers: &mut Numbers) {
+    /// Pairs that are taken, at places that look random, and now and then one that is refused after them.
+    fn hold_any<Edit: Copy>(
+        &mut self,
+        sheet: &Sheet,
+        numbers: &mut Numbers,
+        any: impl Fn(&mut Numbers) -> Edit,
+        play: impl Fn(&mut plain::Map, Edit) -> plain::Edited,
+        edits: impl Fn(Vec<Edit>) -> Edits,
+    ) {
         let mut map = plain::Map::sheet(sheet).unwrap();
-        let mut chords = Vec::new();
+        let mut pairs = Vec::new();
         for _ in 0..numbers.below(100) {
-            let mut any = || numbers.below(sheet.arcs() + 2) as u32;
-            let chord = Chord { from: any(), to: any(), gone: any() };
+            let pair = any(numbers);
             let mut next = map.clone();
-            if next.divide_and_dissolve(chord).is_ok() {
+            if play(&mut next, pair).is_ok() {
                 map = next;
-                chords.push(chord);
+                pairs.push(pair);
             } else if numbers.below(200) == 0 {
-                chords.push(chord);
+                pairs.push(pair);
                 break;
             }
         }
-        self.hold(sheet, &Edits::Chords(chords));
+        self.hold(sheet, &edits(pairs));
     }
 
-    /// The same of splits and joins.
+    fn hold_chords(&mut self, sheet: &Sheet, numbers: &mut Numbers) {
+        let any = |numbers: &mut Numbers| {
+            let mut arc = || numbers.below(sheet.arcs() + 2) as u32;
+            Chord { from: arc(), to: arc(), gone: arc() }
+        };
+        self.hold_any(sheet, numbers, any, plain::Map::divide_and_dissolve, Edits::Chords);
+    }
+
     fn hold_partings(&mut self, sheet: &Sheet, numbers: &mut Numbers) {
-        let mut map = plain::Map::sheet(sheet).unwrap();
-        let mut partings = Vec::new();
-        for _ in 0..numbers.below(100) {
-            let parting = Parting { arc: numbers.below(sheet.arcs() + 1), vertex: numbers.below(5), node: numbers.below(sheet.arcs() + 2) };
-            let mut next = map.clone();
-            if next.split_and_join(parting).is_ok() {
-                map = next;
-                partings.push(parting);
-            } else if numbers.below(200) == 0 {
-                partings.push(parting);
-                break;
-            }
-        }
-        self.hold(sheet, &Edits::Partings(partings));
+        let any = |numbers: &mut Numbers| Parting { arc: numbers.below(sheet.arcs() + 1), vertex: numbers.below(5), node: numbers.below(sheet.arcs() + 2) };
+        self.hold_any(sheet, numbers, any, plain::Map::split_and_join, Edits::Partings);
     }
 }
 

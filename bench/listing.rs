@@ -3,7 +3,12 @@
 // Both list a map of nested islands, and a path of arcs with one ring through all sides,
 // into a buffer that is there already. Times never fail the run; texts that differ do.
 
+mod computed;
+mod times;
+
+use computed::seconds;
 use std::hint::black_box;
+use times::Times;
 
 const SIZES: [usize; 5] = [1_024, 2_048, 4_096, 8_192, 16_384];
 const REPETITIONS: usize = 31;
@@ -155,44 +160,6 @@ mod plain {
             self.write(&mut rest).ok()?;
             Some(room - rest.len())
         }
-    }
-}
-
-/// Seconds that this thread has computed, so that other work on the machine does not count.
-fn computed() -> f64 {
-    #[repr(C)]
-    struct Timespec {
-        seconds: i64,
-        nanoseconds: i64,
-    }
-    extern "C" {
-        fn clock_gettime(clock: i32, time: *mut Timespec) -> i32;
-    }
-    const THREAD_CPUTIME: i32 = 3;
-    let mut time = Timespec { seconds: 0, nanoseconds: 0 };
-    // SAFETY: the function writes one time.
-    assert_eq!(unsafe { clock_gettime(THREAD_CPUTIME, &mut time) }, 0);
-    time.seconds as f64 + 1e-9 * time.nanoseconds as f64
-}
-
-fn seconds(work: impl FnOnce()) -> f64 {
-    let start = computed();
-    work();
-    computed() - start
-}
-
-#[derive(Default)]
-struct Times(Vec<f64>);
-
-impl Times {
-    fn median(&self) -> f64 {
-        let mut sorted = self.0.clone();
-        sorted.sort_by(f64::total_cmp);
-        sorted[sorted.len() / 2]
-    }
-
-    fn least(&self) -> f64 {
-        self.0.iter().copied().fold(f64::INFINITY, f64::min)
     }
 }
 

@@ -3,8 +3,11 @@
 // Both count the arcs of an ARC file whose boxes meet a window. The files are made
 // in memory. Times never fail the run; answers that differ do.
 
+mod times;
+
 use std::hint::black_box;
 use std::time::Instant;
+use times::Times;
 
 const REFUSED: u64 = u64::MAX;
 const RECORDS: usize = 1_000_000;
@@ -294,20 +297,6 @@ impl Agreement {
     }
 }
 
-struct Times(Vec<f64>);
-
-impl Times {
-    fn minimum(&self) -> f64 {
-        self.0.iter().copied().fold(f64::INFINITY, f64::min)
-    }
-
-    fn median(&self) -> f64 {
-        let mut sorted = self.0.clone();
-        sorted.sort_by(f64::total_cmp);
-        sorted[sorted.len() / 2]
-    }
-}
-
 /// Seconds for one call.
 fn timed(calls: usize, search: fn(&[u8], [f64; 4]) -> u64, file: &[u8], window: [f64; 4]) -> f64 {
     let start = Instant::now();
@@ -319,7 +308,7 @@ fn timed(calls: usize, search: fn(&[u8], [f64; 4]) -> u64, file: &[u8], window: 
 
 /// The times of both, taken in turns.
 fn measured(calls: usize, file: &[u8], window: [f64; 4]) -> (Times, Times) {
-    let (mut natharqo, mut plain) = (Times(Vec::new()), Times(Vec::new()));
+    let (mut natharqo, mut plain) = (Times::default(), Times::default());
     // once each, unmeasured
     timed(calls, natharqo::arcs_meeting, file, window);
     timed(calls, plain::arcs_meeting, file, window);
@@ -356,9 +345,9 @@ fn compare(agreement: &mut Agreement) {
                 1e3 * natharqo.median(),
                 1e3 * plain.median(),
                 natharqo.median() / plain.median(),
-                1e3 * natharqo.minimum(),
-                1e3 * plain.minimum(),
-                natharqo.minimum() / plain.minimum(),
+                1e3 * natharqo.least(),
+                1e3 * plain.least(),
+                natharqo.least() / plain.least(),
             );
         }
     }
