@@ -12,6 +12,7 @@ use std::alloc::{AllocError, Global};
 use tables::tables::{BoxedTable, RecordTable, search};
 
 // The report on the records of a table that are wanted, of which `next` tells the lowest from a number on.
+// Stays: the records are counted where their lines are put, since there may be no memory for a line, and the number is wanted after the last; `successors` and `try_fold` from one record to the next, with a closure in each, is no plainer.
 // Stays: heap, kind, version and table are four parameters here and in the two public functions, which keep their signatures. A struct of them would be made in both and taken apart here; a table that told its kind and version would ask that of everyone who implements RecordTable. Neither is plainer.
 fn report<T: RecordTable, F: Fn(usize) -> Option<usize>>(
     heap: Global,
