@@ -1,25 +1,23 @@
--- The lines of the wanted records and how many there are, up to one more record.
-use Rattle.std.proofs.Common.{◌≡◌, ℕ, ◌+◌, Bool, true, false, List, [], ◌++◌, sym, ap, ◌∙◌, add-one, arith}
+-- The lines of the wanted records, one more and none more.
+use Rattle.std.proofs.Common.{◌≡◌, ℕ, zero, suc, ◌+◌, ◌<◌, ◌≤◌, Bool, true, false, List, [], ◌++◌, sym, ap, ◌∙◌, inl, inr, add-one, arith}
 use Rattle.std.proofs.lemmas.List.{append_assoc, append-nil}
-use Rattle.std.proofs.lemmas.Bool.{cond-true, cond-false}
-use Rattle.tables.specs.Windows.{tally}
+use Rattle.std.proofs.lemmas.Bool.{cases_eq, cond-true, cond-false}
 use Rattle.record_report.specs.Reports.{lines}
 
-module _ (wanted : ℕ → Bool) (text : ℕ → List ℕ) (start : List ℕ) where
-  pub wanted_turn : (k n : ℕ) (was is : List ℕ) → true ≡ wanted k → n ≡ tally wanted k → was ≡ start ++ lines wanted text k → is ≡ was ++ text k
-      → (n + 1 ≡ tally wanted (k + 1)) × (is ≡ start ++ lines wanted text (k + 1))
-  wanted_turn k n was is h t e d = (
-    omega (arith, t, ap (tally wanted) (add-one k), cond-true {A = ℕ} (wanted k) 1 0 (sym h)),
-    d ∙ ap (λ v. v ++ text k) e ∙ append_assoc start (lines wanted text k) (text k)
-        ∙ ap (λ v. start ++ v) (ap (λ v. lines wanted text k ++ v) (sym (cond-true (wanted k) (text k) [] (sym h))) ∙ sym (ap (lines wanted text) (add-one k))),
-  )
+-- the lines up to a record that is wanted
+pub lines_more : (wanted : ℕ → Bool) (text : ℕ → List ℕ) (start : List ℕ) (f : ℕ) → wanted f ≡ true → (start ++ lines wanted text f) ++ text f ≡ start ++ lines wanted text (f + 1)
+lines_more wanted text start f h = rw add-one (append_assoc start (lines wanted text f) (text f) ∙ ap (λ t. start ++ (lines wanted text f ++ t)) (sym (cond-true (wanted f) (text f) [] h)))
 
-  pub passed_turn : (k n : ℕ) (was : List ℕ) → false ≡ wanted k → n ≡ tally wanted k → was ≡ start ++ lines wanted text k
-      → (n ≡ tally wanted (k + 1)) × (was ≡ start ++ lines wanted text (k + 1))
-  passed_turn k n was h t e = (
-    omega (arith, t, ap (tally wanted) (add-one k), cond-false {A = ℕ} (wanted k) 1 0 (sym h)),
-    e ∙ ap (λ v. start ++ v) (sym (append-nil (lines wanted text k)) ∙ ap (λ v. lines wanted text k ++ v) (sym (cond-false (wanted k) (text k) [] (sym h))) ∙ sym (ap (lines wanted text) (add-one k))),
-  )
+-- where none is wanted from k on, nothing is added
+pub lines_none : (wanted : ℕ → Bool) (text : ℕ → List ℕ) (k f : ℕ) → k ≤ f → ((i : ℕ) → i < f → k ≤ i → wanted i ≡ false) → lines wanted text f ≡ lines wanted text k
+lines_none wanted text k zero h none = let e : k ≡ 0 = omega arith in rw e
+lines_none wanted text k (suc f) h none =
+    elim (cases_eq k (suc f)) [
+      | inl e ↦ rw e
+      | inr ne ↦
+          ap (λ t. lines wanted text f ++ t) (cond-false (wanted f) (text f) [] (none f (omega arith) (omega arith)))
+          ∙ append-nil (lines wanted text f) ∙ lines_none wanted text k f (omega arith) (λ i l m. none i (omega arith) m)
+    ]
 
 -- a head, then lines, then a foot
 pub joined : (l : List ℕ) {s t u v h f : List ℕ} → s ≡ h → t ≡ s ++ l → v ≡ f → u ≡ t ++ v → u ≡ h ++ (l ++ f)

@@ -1,5 +1,5 @@
 -- The text of a report, byte for byte.
-use Rattle.std.specs.Prelude.{ℕ, zero, suc, Bool, true, cond, List, [], ◌++◌}
+use Rattle.std.specs.Prelude.{◌≡◌, ℕ, zero, suc, ◌<◌, ◌≤◌, Bool, true, false, cond, List, [], ◌++◌, Some, None, Option}
 use Rattle.kinds.specs.declared.kind.Kind.{Kind}
 use Rattle.layout.specs.declared.version.Version.{Version}
 use Rattle.tables.specs.Windows.{tally}
@@ -16,3 +16,13 @@ report_text kind version count wanted text = head_text kind version count ++ (li
 
 abbrev pub every : ℕ → Bool
 every k = true
+
+-- a record from k on, of so many; or none
+abbrev pub Later : ℕ → ℕ → Option ℕ → Type 0
+Later count k None = Unit {0}
+Later count k (Some f) = (k ≤ f) × (f < count)
+
+-- the lowest record from k on, of so many, that is wanted; or none
+abbrev pub Next : (ℕ → Bool) → ℕ → ℕ → Option ℕ → Type 0
+Next wanted count k None = (i : ℕ) → i < count → k ≤ i → wanted i ≡ false
+Next wanted count k (Some f) = (k ≤ f) × (f < count) × (wanted f ≡ true) × ((i : ℕ) → i < f → k ≤ i → wanted i ≡ false)

@@ -54,19 +54,27 @@ pub fn meets_at<T: BoxedTable>(table: &T, k: usize, window: &Bounds) -> bool
 pub fn search<T: BoxedTable>(table: &T, k: usize, window: &Bounds) -> Option<usize>
     ensures { Lowest (T.BoxedTable.boxes table.now) (T.RecordTable.count table.now) k (edges_of window.now) result }
 {
-    (k..table.len()).find(|i| meets_at(table, *i, window))
+    // Stays: a loop, for speed. With `filter` and `count` the quotient that judges a record's place was taken anew for each record, and a count took more than 1.1 times as long as plain Rust, which this loop does not; `find` takes a closure as they do.
+    for i in k..table.len() {
+        if meets_at(table, i, window) {
+            return Some(i);
+        }
+    }
+    None
 }
 
 /// How many records meet the window.
 pub fn count_meeting<T: BoxedTable>(table: &T, window: &Bounds) -> usize
     ensures { result ≡ tally (λ k. met (T.BoxedTable.boxes table.now k) (edges_of window.now)) (T.RecordTable.count table.now) }
 {
-    // Stays: with `filter` and `count` the quotient that judges a record's place is taken anew for each record, and a count takes more than 1.1 times as long as plain Rust, which this loop does not.
+    // how many records there are fits a usize, so no sum below passes its largest
+    let _count = table.len();
+    // Stays: each search begins after the record that the one before it found. `successors`, with a closure that searches from the number after the one found where there is one, and `count` over it, is no plainer.
     let mut n = 0;
-    for k in 0..table.len() {
-        if meets_at(table, k, window) {
-            n += 1;
-        }
+    let mut k = 0;
+    while let Some(f) = search(table, k, window) {
+        n += 1;
+        k = f + 1;
     }
     n
 }
