@@ -135,12 +135,17 @@ impl Lister<'_, '_, '_> {
         self.put_byte(b'\n');
     }
 
-    // A side of a ring.
+    // A side of a ring. Past the end of the buffer its bytes are only counted.
     pub(crate) fn put_side(&mut self, side: usize)
         ensures { Puts self.old self.new (side_text side) }
     {
-        let arc = put_byte(self.out, self.at, b' ');
-        let sign = put_number(self.out, arc, side / 2);
-        self.at = put_byte(self.out, sign, if side % 2 == 0 { b'+' } else { b'-' });
+        let arc = side / 2;
+        if self.at < self.out.len() {
+            let number = put_byte(self.out, self.at, b' ');
+            let sign = put_digits(self.out, number, arc);
+            self.at = put_byte(self.out, sign, if side % 2 == 0 { b'+' } else { b'-' });
+        } else {
+            self.at = self.at.saturating_add(digit_count(arc) + 2);
+        }
     }
 }
