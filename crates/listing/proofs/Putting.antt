@@ -4,7 +4,7 @@ use lib.Seq.{sets}
 use Rattle.std.proofs.Math.Nat.{one-le-pow}
 use Rattle.std.proofs.lemmas.List.{length-append, append_assoc, length_push, set_past}
 use Rattle.std.proofs.lemmas.Fmt.{decimal_digit, decimal_step, decimal_nonempty, length-decimal-le}
-use Rattle.listing.specs.Puts.{Put, Puts, two, four}
+use Rattle.listing.specs.Puts.{Put, PutsAt, Puts, two, four}
 use Rattle.listing.specs.declared.puts.Lister.{Lister}
 use Rattle.listing.specs.Texts.{counts_line, side_text}
 
@@ -23,17 +23,20 @@ put_then {was = was} {at = at} {ws = ws} {to = to} {vs = vs} p q =
 pub put_same : {was : List ℕ} {at : ℕ} {ws vs is : List ℕ} {to : ℕ} → ws ≡ vs → Put was at ws is to → Put was at vs is to
 put_same {was = was} {at = at} {is = is} {to = to} e p = subst (λ (xs : List ℕ). Put was at xs is to) e p
 
+-- ---- the same where the bytes can be counted
+
+pub puts_at_then : {was : List ℕ} {at : ℕ} {ws mid : List ℕ} {to : ℕ} {vs is : List ℕ} {end : ℕ} → PutsAt was at ws mid to → PutsAt mid to vs is end → PutsAt was at (ws ++ vs) is end
+puts_at_then {ws = ws} {vs = vs} p q h =
+    let a = p (omega (arith, h, length-append ws vs)) in
+    put_then a (q (omega (arith, h, a.next, length-append ws vs)))
+
+pub puts_at_same : {was : List ℕ} {at : ℕ} {ws vs is : List ℕ} {to : ℕ} → ws ≡ vs → PutsAt was at ws is to → PutsAt was at vs is to
+puts_at_same {was = was} {at = at} {is = is} {to = to} e p = subst (λ (xs : List ℕ). PutsAt was at xs is to) e p
+
 -- ---- the same of a listing
 
 pub puts_then : {was mid is : Lister} {ws vs : List ℕ} → Puts was mid ws → Puts mid is vs → Puts was is (ws ++ vs)
-puts_then {ws = ws} {vs = vs} p q =
-    record {
-      put = λ h.
-          let a = p.put (omega (arith, h, length-append ws vs)) in
-          put_then a (q.put (omega (arith, h, a.next, length-append ws vs)));
-      same = q.same ∙ p.same;
-      map = q.map ∙ p.map;
-    }
+puts_then p q = record { put = puts_at_then p.put q.put; same = q.same ∙ p.same; map = q.map ∙ p.map }
 
 pub puts_same : {was is : Lister} {ws vs : List ℕ} → ws ≡ vs → Puts was is ws → Puts was is vs
 puts_same {was = was} {is = is} e p = subst (λ (xs : List ℕ). Puts was is xs) e p

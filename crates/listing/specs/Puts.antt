@@ -11,9 +11,13 @@ pub record Put (was : List ℕ) (at : ℕ) (text is : List ℕ) (to : ℕ) : Typ
   pub next : to ≡ at + length text
   pub after : is ≡ sets was at text
 
+-- the same, where the bytes of the text can be counted
+abbrev pub PutsAt : List ℕ → ℕ → List ℕ → List ℕ → ℕ → Type 0
+PutsAt was at text is to = at + length text < 2 ^ 64 → Put was at text is to
+
 -- the text was put into the buffer of a listing, where its bytes can be counted; the listing still has that buffer and its map
 pub record Puts (was is : Lister) (text : List ℕ) : Type 0 where
-  pub put : was.at + length text < 2 ^ 64 → Put was.out.now was.at text is.out.now is.at
+  pub put : PutsAt was.out.now was.at text is.out.now is.at
   pub same : is.out.ghost_name ≡ was.out.ghost_name
   pub map : is.map ≡ was.map
 

@@ -1,6 +1,6 @@
 // Text put into a buffer as far as it reaches: into none, it is only measured.
 ghost use Rattle.std.specs.Prelude.{◌≡◌, ℕ, ◌+◌, ◌^◌, ◌<◌, [], ◌∷◌, length, decimal};
-ghost use Rattle.listing.specs.Puts.{Puts, two, four};
+ghost use Rattle.listing.specs.Puts.{PutsAt, Puts, two, four};
 ghost use Rattle.listing.specs.Texts.{count_text, counts_line, side_text};
 
 use topology::map::Map;
@@ -12,6 +12,67 @@ fn digit_count(n: usize) -> usize
     n.checked_ilog10().map_or(1, |power| power as usize + 1)
 }
 
+// Puts a byte at a place, and says where the next one goes. Past the end of the buffer it is only counted, and the count stays at the largest number.
+// Stays: here and in the functions on digits the place is handed on, so that a listing takes at most 1.1 times as long as with the older form. As methods of `Lister`, which read and write the place for each byte, they made it take 1.3 to 1.4 times as long.
+fn put_byte(out: &mut [u8], at: usize, byte: u8) -> usize
+    ensures { PutsAt out.old at (byte ∷ []) out.new result }
+{
+    if at < out.len() {
+        out[at] = byte;
+        at + 1
+    } else {
+        at.saturating_add(1)
+    }
+}
+
+// The two digits of a number below 100.
+fn put_two(out: &mut [u8], at: usize, n: usize) -> usize
+    requires { n < 100 }
+    ensures { PutsAt out.old at (two n) out.new result }
+{
+    let last = put_byte(out, at, b'0' + (n / 10) as u8);
+    put_byte(out, last, b'0' + (n % 10) as u8)
+}
+
+// A number of one or two digits.
+fn put_short(out: &mut [u8], at: usize, n: usize) -> usize
+    requires { n < 100 }
+    ensures { PutsAt out.old at (decimal n) out.new result }
+{
+    if n < 10 {
+        return put_byte(out, at, b'0' + n as u8);
+    }
+    put_two(out, at, n)
+}
+
+// The four digits of a number below 10,000.
+fn put_four(out: &mut [u8], at: usize, n: usize) -> usize
+    requires { n < 10000 }
+    ensures { PutsAt out.old at (four n) out.new result }
+{
+    let last = put_two(out, at, n / 100);
+    put_two(out, last, n % 100)
+}
+
+// The digits of a number, four by four from the last. Only a number of more than six calls again.
+fn put_digits(out: &mut [u8], at: usize, n: usize) -> usize
+    ensures { PutsAt out.old at (decimal n) out.new result }
+{
+    if n < 100 {
+        return put_short(out, at, n);
+    }
+    if n < 10000 {
+        let last = put_short(out, at, n / 100);
+        return put_two(out, last, n % 100);
+    }
+    if n < 1000000 {
+        let last = put_short(out, at, n / 10000);
+        return put_four(out, last, n % 10000);
+    }
+    let last = put_digits(out, at, n / 10000);
+    put_four(out, last, n % 10000)
+}
+
 // A map as it is listed: the map, the buffer that the caller lends, and where the next byte goes.
 #[derive(Drop)]
 pub(crate) struct Lister<'a, 'm, 'o> {
@@ -21,68 +82,11 @@ pub(crate) struct Lister<'a, 'm, 'o> {
 }
 
 impl Lister<'_, '_, '_> {
-    // Puts a byte. Past the end of the buffer it is only counted, and the count stays at the largest number.
+    // Puts a byte.
     pub(crate) fn put_byte(&mut self, byte: u8)
         ensures { Puts self.old self.new (byte ∷ []) }
     {
-        if self.at < self.out.len() {
-            self.out[self.at] = byte;
-            self.at += 1;
-        } else {
-            self.at = self.at.saturating_add(1);
-        }
-    }
-
-    // The two digits of a number below 100.
-    fn put_two(&mut self, n: usize)
-        requires { n < 100 }
-        ensures { Puts self.old self.new (two n) }
-    {
-        self.put_byte(b'0' + (n / 10) as u8);
-        self.put_byte(b'0' + (n % 10) as u8);
-    }
-
-    // A number of one or two digits.
-    fn put_short(&mut self, n: usize)
-        requires { n < 100 }
-        ensures { Puts self.old self.new (decimal n) }
-    {
-        if n < 10 {
-            self.put_byte(b'0' + n as u8);
-            return;
-        }
-        self.put_two(n);
-    }
-
-    // The four digits of a number below 10,000.
-    fn put_four(&mut self, n: usize)
-        requires { n < 10000 }
-        ensures { Puts self.old self.new (four n) }
-    {
-        self.put_two(n / 100);
-        self.put_two(n % 100);
-    }
-
-    // The digits of a number, four by four from the last. Only a number of more than six calls again.
-    fn put_digits(&mut self, n: usize)
-        ensures { Puts self.old self.new (decimal n) }
-    {
-        if n < 100 {
-            self.put_short(n);
-            return;
-        }
-        if n < 10000 {
-            self.put_short(n / 100);
-            self.put_two(n % 100);
-            return;
-        }
-        if n < 1000000 {
-            self.put_short(n / 10000);
-            self.put_four(n % 10000);
-            return;
-        }
-        self.put_digits(n / 10000);
-        self.put_four(n % 10000);
+        self.at = put_byte(self.out, self.at, byte);
     }
 
     // The bytes of a word.
@@ -99,7 +103,7 @@ impl Lister<'_, '_, '_> {
         ensures { Puts self.old self.new (decimal n) }
     {
         if self.at < self.out.len() {
-            self.put_digits(n);
+            self.at = put_digits(self.out, self.at, n);
         } else {
             self.at = self.at.saturating_add(digit_count(n));
         }
@@ -124,12 +128,17 @@ impl Lister<'_, '_, '_> {
         self.put_byte(b'\n');
     }
 
-    // A side of a ring.
+    // A side of a ring. Past the end of the buffer its bytes are only counted.
     pub(crate) fn put_side(&mut self, side: usize)
         ensures { Puts self.old self.new (side_text side) }
     {
-        self.put_byte(b' ');
-        self.put_number(side / 2);
-        self.put_byte(if side % 2 == 0 { b'+' } else { b'-' });
+        let arc = side / 2;
+        if self.at < self.out.len() {
+            let number = put_byte(self.out, self.at, b' ');
+            let sign = put_digits(self.out, number, arc);
+            self.at = put_byte(self.out, sign, if side % 2 == 0 { b'+' } else { b'-' });
+        } else {
+            self.at = self.at.saturating_add(digit_count(arc) + 2);
+        }
     }
 }

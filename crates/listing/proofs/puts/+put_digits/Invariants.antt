@@ -1,4 +1,4 @@
-use Rattle.listing.proofs.puts.Lister.+put_digits.Given as goal
+use Rattle.listing.proofs.puts.+put_digits.Given as goal
 
 abbrev pub decreases-put_digits : goal.decreases-put_digits
 decreases-put_digits l = l.n
