@@ -8,7 +8,7 @@ use thiserror::Error;
 /// Why a line was not read.
 #[derive(Clone, Copy, PartialEq, Eq, Debug, Error)]
 pub enum LineFault {
-    #[error("no memory for a line")]
+    #[error("no memory for an answer")]
     NoMemory,
     /// The line is no call. By its first word it has to be this one.
     #[error("expected {0}")]

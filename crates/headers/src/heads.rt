@@ -21,7 +21,7 @@ fn bytes_needed(version: Option<Version>) -> usize
 fn agreed(wanted: Option<Kind>, said: Option<Kind>) -> Option<Kind>
     ensures { result ≡ kind_agreed wanted said }
 {
-    said.filter(|k| wanted == Some(*k))
+    said.filter(|k| wanted.is_some_and(|w| w.is(*k)))
 }
 
 // The fields of a header that is whole.

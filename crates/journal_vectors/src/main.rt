@@ -12,7 +12,7 @@ use topology::map::Map;
 use topology::side::Side;
 use topology::vertex::Vertex;
 
-// One line and its answer.
+// One line, with its end, and its answer.
 fn answer(rt: &HostRuntime, map: &mut Map, number: u64, bytes: &[u8]) -> anyhow::Result<()> {
     match play_bytes(rt.alloc(), map, bytes) {
         Ok(Some(text)) => rt.stdout().write_all(text.as_slice())?,
@@ -25,9 +25,14 @@ fn answer(rt: &HostRuntime, map: &mut Map, number: u64, bytes: &[u8]) -> anyhow:
 // The lines of a journal, played on a map.
 // Stays: this and `run` are nearly `play` and `run` of `sheet_journal`, which stop at the first fault and say what is wrong where tables find no memory; here faults are told between the answers, and an error ends the program. One function for both would take the reader and a closure for what a fault does, around one `for`, and is no plainer.
 fn play(rt: &HostRuntime, map: &mut Map, path: &str) -> anyhow::Result<()> {
-    let input = BufReader::new(rt.alloc(), fs::open(rt, path)?)?;
-    for (number, bytes) in (1u64..).zip(input.split(rt.alloc(), b'\n')) {
-        answer(rt, map, number, bytes?.as_slice())?;
+    let mut input = BufReader::new(rt.alloc(), fs::open(rt, path)?)?;
+    // Stays: `split` gives each line without its line feed, and what `play_bytes` promises of the end of a line would not bear on what is done here. So each is read with its end, and a range numbers them.
+    for number in 1..u64::MAX {
+        let mut bytes = Vec::new(rt.alloc());
+        if input.read_until(b'\n', &mut bytes)? == 0 {
+            break;
+        }
+        answer(rt, map, number, bytes.as_slice())?;
     }
     Ok(())
 }

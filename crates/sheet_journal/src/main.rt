@@ -18,7 +18,7 @@ fn stop(rt: &HostRuntime, what: &(impl Display + Drop)) -> anyhow::Result<ExitCo
     Ok(ExitCode::FAILURE)
 }
 
-// Plays one line as it was read, and writes its answer.
+// Plays one line as it was read, with its end, and writes its answer.
 fn answer(rt: &HostRuntime, map: &mut Map, read: io::Result<Vec<u8>>) -> anyhow::Result<()> {
     if let Some(text) = play_bytes(rt.alloc(), map, read?.as_slice())? {
         rt.stdout().write_all(text.as_slice())?;
@@ -29,9 +29,15 @@ fn answer(rt: &HostRuntime, map: &mut Map, read: io::Result<Vec<u8>>) -> anyhow:
 // Plays the lines of standard input.
 // Stays: this and `run` are nearly `play` and `run` of `journal_vectors`, where a fault is told and the lines go on. One function for both would take the reader and a closure for what a fault does, around one `for`, and is no plainer.
 fn play(rt: &HostRuntime, map: &mut Map) -> anyhow::Result<ExitCode> {
-    let input = BufReader::new(rt.alloc(), rt.stdin())?;
-    for (number, read) in (1u64..).zip(input.split(rt.alloc(), b'\n')) {
-        if let Err(fault) = answer(rt, map, read) {
+    let mut input = BufReader::new(rt.alloc(), rt.stdin())?;
+    // Stays: `split` gives each line without its line feed, and what `play_bytes` promises of the end of a line would not bear on what is done here. So each is read with its end, and a range numbers them.
+    for number in 1..u64::MAX {
+        let mut bytes = Vec::new(rt.alloc());
+        let read = input.read_until(b'\n', &mut bytes);
+        if matches!(read, Ok(0)) {
+            break;
+        }
+        if let Err(fault) = answer(rt, map, read.map(|_| bytes)) {
             return stop(rt, &format_args!("line {number}: {fault}"));
         }
     }
