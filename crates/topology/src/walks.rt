@@ -27,7 +27,7 @@ pub(crate) fn find_ring(sides: &[Side], k: usize) -> Option<(usize, usize)>
     sides
         .iter()
         .enumerate()
-        .filter(|(s, side)| side.low as usize == *s)
+        .filter(|(at, side)| side.low as usize == *at)
         .map(|(s, side)| (side.polygon as usize, s))
         .nth(k)
 }
