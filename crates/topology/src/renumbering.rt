@@ -1,4 +1,4 @@
-ghost use Rattle.std.specs.Prelude.{◌≡◌, ℕ, ◌+◌, ◌≤◌, false, map};
+ghost use Rattle.std.specs.Prelude.{◌≡◌, ℕ, ◌+◌, ◌<◌, map};
 ghost use Rattle.rings.specs.Edits.{fill};
 ghost use Rattle.topology.specs.Renumbered.{renumbered, sides_renumbered, node_renumbered, polygon_renumbered};
 
@@ -50,68 +50,17 @@ impl Renumbering {
             ..row
         }
     }
-
-    // A row whose node has its new number.
-    fn node_of(self, row: Side) -> Side
-        ensures { result ≡ node_renumbered self row }
-    {
-        Side {
-            node: renamed(self.last_node, self.node, row.node),
-            ..row
-        }
-    }
-
-    // A row whose polygon has its new number.
-    fn polygon_of(self, row: Side) -> Side
-        ensures { result ≡ polygon_renumbered self row }
-    {
-        Side {
-            polygon: renamed(
-                self.last_polygon,
-                self.polygon,
-                renamed(self.polygon, self.into, row.polygon),
-            ),
-            ..row
-        }
-    }
-
-    // A row under the changed numbers.
-    fn row(self, row: Side) -> Side
-        ensures { result ≡ renumbered self row }
-    {
-        self.polygon_of(self.node_of(self.sides_of(row)))
-    }
-
-    // Whether some side may have another number.
-    fn changes_sides(self) -> bool
-        ensures { result ≡ false → (self.side ≡ self.last_side) × (self.low_unturned ≤ self.side) × (self.low_turned ≤ self.side + 1) }
-    {
-        let unturned = u32::from(self.side);
-        self.side != self.last_side
-            || self.low_unturned > unturned
-            || self.low_turned > unturned + 1
-    }
-
-    // Whether some node may have another number.
-    fn changes_nodes(self) -> bool
-        ensures { result ≡ false → self.node ≡ self.last_node }
-    {
-        self.node != self.last_node
-    }
-
-    // Whether some polygon may have another number.
-    fn changes_polygons(self) -> bool
-        ensures { result ≡ false → (self.polygon ≡ self.into) × (self.polygon ≡ self.last_polygon) }
-    {
-        self.polygon != self.into || self.polygon != self.last_polygon
-    }
 }
 
 // The rows, with the new numbers of sides. Where none has another there is nothing to change.
 fn renumber_sides(rows: &mut [Side], numbers: Renumbering)
     ensures { rows.new ≡ map (sides_renumbered numbers) rows.old }
 {
-    if numbers.changes_sides() {
+    let unturned = u32::from(numbers.side);
+    if numbers.side != numbers.last_side
+        || numbers.low_unturned > unturned
+        || numbers.low_turned > unturned + 1
+    {
         change_each(rows, |row| numbers.sides_of(row));
     }
 }
@@ -120,8 +69,14 @@ fn renumber_sides(rows: &mut [Side], numbers: Renumbering)
 fn renumber_nodes(rows: &mut [Side], numbers: Renumbering)
     ensures { rows.new ≡ map (node_renumbered numbers) rows.old }
 {
-    if numbers.changes_nodes() {
-        change_each(rows, |row| numbers.node_of(row));
+    if numbers.node != numbers.last_node {
+        change_each(
+            rows,
+            |row| Side {
+                node: renamed(numbers.last_node, numbers.node, row.node),
+                ..row
+            },
+        );
     }
 }
 
@@ -129,27 +84,26 @@ fn renumber_nodes(rows: &mut [Side], numbers: Renumbering)
 fn renumber_polygons(rows: &mut [Side], numbers: Renumbering)
     ensures { rows.new ≡ map (polygon_renumbered numbers) rows.old }
 {
-    if numbers.changes_polygons() {
-        change_each(rows, |row| numbers.polygon_of(row));
+    if numbers.polygon != numbers.into || numbers.polygon != numbers.last_polygon {
+        change_each(
+            rows,
+            |row| Side {
+                polygon: renamed(
+                    numbers.last_polygon,
+                    numbers.polygon,
+                    renamed(numbers.polygon, numbers.into, row.polygon),
+                ),
+                ..row
+            },
+        );
     }
 }
 
-// The rows, with each new number in turn.
-fn renumber_in_turn(rows: &mut [Side], numbers: Renumbering)
+// The rows under the changed numbers.
+pub(crate) fn renumber(rows: &mut [Side], numbers: Renumbering)
     ensures { rows.new ≡ map (renumbered numbers) rows.old }
 {
     renumber_sides(rows, numbers);
     renumber_nodes(rows, numbers);
     renumber_polygons(rows, numbers);
-}
-
-// The rows under the changed numbers: in one pass where sides change and something else does too.
-pub(crate) fn renumber(rows: &mut [Side], numbers: Renumbering)
-    ensures { rows.new ≡ map (renumbered numbers) rows.old }
-{
-    if numbers.changes_sides() && (numbers.changes_nodes() || numbers.changes_polygons()) {
-        change_each(rows, |row| numbers.row(row));
-    } else {
-        renumber_in_turn(rows, numbers);
-    }
 }
