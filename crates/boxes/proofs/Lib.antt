@@ -1,3 +1,4 @@
+pub mod Order
 pub mod Finite
 pub mod StoredBack
 pub mod MeetLaws

@@ -17,20 +17,20 @@ le_same x y h =
     let t = float.T_from_true _ h in
     (from_T _ (float.le_refl x (float.le_left x y t)), from_T _ (float.le_refl y (float.le_right x y t)))
 
-le_trans : (x y z : Float) → le x y ≡ true → le y z ≡ true → le x z ≡ true
+pub le_trans : (x y z : Float) → le x y ≡ true → le y z ≡ true → le x z ≡ true
 le_trans x y z h k = from_T _ (float.le_trans x y z (float.T_from_true _ h) (float.T_from_true _ k))
 
 le_turned : (x y : Float) → le x x ≡ true → le y y ≡ true → le x y ≡ false → le y x ≡ true
 le_turned x y h k n =
     from_T _ (float.le_of_lt y x (float.lt_of_not-le x y (float.le_left x x (float.T_from_true _ h)) (float.le_left y y (float.T_from_true _ k)) (float.T_from_false _ n)))
 
-fair_parts : (e : Edges) → fair_edges e ≡ true → (float_is_finite e.minx ≡ true) × (float_is_finite e.maxx ≡ true) × (float_is_finite e.miny ≡ true) × (float_is_finite e.maxy ≡ true) × (le e.minx e.maxx ≡ true) × (le e.miny e.maxy ≡ true)
+pub fair_parts : (e : Edges) → fair_edges e ≡ true → (float_is_finite e.minx ≡ true) × (float_is_finite e.maxx ≡ true) × (float_is_finite e.miny ≡ true) × (float_is_finite e.maxy ≡ true) × (le e.minx e.maxx ≡ true) × (le e.miny e.maxy ≡ true)
 fair_parts e h =
     let z = and_parts _ _ h in let y = and_parts _ _ z.0 in let x = and_parts _ _ y.0 in let w = and_parts _ _ x.0 in let v = and_parts _ _ w.0 in
     (v.0, v.1, w.1, x.1, y.1, z.1)
 
 -- on one axis: the greater of the two lower ends lies in both
-axis : (l r m s : Float) → float_is_finite l ≡ true → float_is_finite m ≡ true → le l r ≡ true → le m s ≡ true → le l s ≡ true → le m r ≡ true
+pub axis : (l r m s : Float) → float_is_finite l ≡ true → float_is_finite m ≡ true → le l r ≡ true → le m s ≡ true → le l s ≡ true → le m r ≡ true
     → (x : Float) × (float_is_finite x ≡ true) × (le l x ≡ true) × (le x r ≡ true) × (le m x ≡ true) × (le x s ≡ true)
 axis l r m s p q h k a b = go (le l m) refl
   where

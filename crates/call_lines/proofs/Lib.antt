@@ -1,2 +1,3 @@
 pub mod VertexWords
 pub mod Saying
+pub mod Commas

@@ -8,7 +8,7 @@ use Rattle.call_lines.specs.declared.expected.Expected.{Expected}
 use Rattle.call_lines.specs.declared.expected.Expected.TheVariants.{AnyCall, IslandCall, SplitCall, DivideCall, ListCall, CountsCall, VertexCall}
 use Rattle.call_lines.specs.Spoken.{none, one, two, and_run, runless_call, call_of, Run, RunOf, Same, SaysCall}
 
-no_run : Run [] []
+pub no_run : Run [] []
 no_run = record { long = refl; each = λ k l. absurd (omega arith) }
 
 -- the same arguments make the same call

@@ -9,11 +9,11 @@ use Rattle.std.proofs.lemmas.Str.{digit_value_digit}
 use Rattle.std.proofs.lemmas.List.{at_drop_more}
 use Rattle.decimals.specs.Plain.{before_point, after_point, some_if, digits_after, with_places, is_short, plain}
 
-value_append : (n : ℕ) (w f : List ℕ) → digits_value_after 10 n (w ++ f) ≡ digits_value_after 10 (digits_value_after 10 n w) f
+pub value_append : (n : ℕ) (w f : List ℕ) → digits_value_after 10 n (w ++ f) ≡ digits_value_after 10 (digits_value_after 10 n w) f
 value_append n [] f = refl
 value_append n (c ∷ w) f = value_append (n * 10 + digit_value c) w f
 
-value_rises : (n : ℕ) (ds : List ℕ) → n ≤ digits_value_after 10 n ds
+pub value_rises : (n : ℕ) (ds : List ℕ) → n ≤ digits_value_after 10 n ds
 value_rises n [] = omega arith
 value_rises n (c ∷ ds) = omega (arith, value_rises (n * 10 + digit_value c) ds)
 
@@ -31,7 +31,7 @@ none_told true x e = absurd (grind arith)
 none_told false x e = refl
 
 -- digits below the limit are digits below the limit and more digits after them
-some_first : (m n : ℕ) (w f : List ℕ) → digits_after m w ≡ Some n → digits_after m (w ++ f) ≡ digits_after n f
+pub some_first : (m n : ℕ) (w f : List ℕ) → digits_after m w ≡ Some n → digits_after m (w ++ f) ≡ digits_after n f
 some_first m n w f e =
     let (b, v) = some_told (all_ascii_digits w && ltb (digits_value_after 10 m w) (2 ^ 53)) (digits_value_after 10 m w) n e in
     let d = (and_parts (all_ascii_digits w) _ b).0 in
@@ -40,7 +40,7 @@ some_first m n w f e =
 none_if : {X : Type 0} (b : Bool) (x : X) → b ≡ false → some_if b x ≡ None
 none_if b x e = rw e refl
 
-none_first : (m : ℕ) (w f : List ℕ) → digits_after m w ≡ None → digits_after m (w ++ f) ≡ None
+pub none_first : (m : ℕ) (w f : List ℕ) → digits_after m w ≡ None → digits_after m (w ++ f) ≡ None
 none_first m w f e =
     none_if _ _ (elim (and_cases (all_ascii_digits w) (ltb (digits_value_after 10 m w) (2 ^ 53)) (none_told _ _ e)) [
       | inl d ↦ rw (digits_append w f, d) refl
@@ -51,7 +51,7 @@ none_first m w f e =
     at true h = h
     at false h = refl
 
-digit_over : (m c : ℕ) (cs : List ℕ) → IsInRange 48 57 c → 2 ^ 53 ≤ m * 10 + (c - 48) → digits_after m (c ∷ cs) ≡ None
+pub digit_over : (m c : ℕ) (cs : List ℕ) → IsInRange 48 57 c → 2 ^ 53 ≤ m * 10 + (c - 48) → digits_after m (c ∷ cs) ≡ None
 digit_over m c cs d l =
     let v : digit_value c ≡ c - 48 = omega (arith, digit_value_digit c d) in
     none_first m (c ∷ []) cs (none_if _ _ (over (all_ascii_digits (c ∷ [])) (le-ltb (digits_value_after 10 m (c ∷ [])) (2 ^ 53) (omega (arith, v, l)))))

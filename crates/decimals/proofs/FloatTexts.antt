@@ -3,11 +3,11 @@ use Rattle.std.proofs.Common.{◌≡◌, ℕ, ◌+◌, ◌^◌, ◌<◌, Bool, t
 use lib.Ieee.{Float, binary64, round}
 use Rattle.std.specs.Result.{result_ok}
 use Rattle.std.specs.Float.Numeral.{Parts, scan_numeral, nearest_float, text_of, IsWellFormed}
-use Rattle.std.specs.Float.Parse.{without_sign, sign_len, read_float, parse_float, IsParseFloatResult}
+use Rattle.std.specs.Float.Parse.{without_sign, sign_len, read_float, parse_float, is_float_text, IsParseFloatResult}
 use Rattle.std.specs.Str.Parse.{digits_value_after, starts_with_minus}
 use Rattle.std.specs.Str.{all_ascii_digits}
 use Rattle.std.proofs.lemmas.Bool.{cases_Bool, and_parts, ltb-true, eqb-true, eq-eqb, or_cases}
-use Rattle.std.proofs.lemmas.Float.Parse.{scan_numeral-text_of}
+use Rattle.std.proofs.lemmas.Float.Parse.{scan_numeral-text_of, is_some-parse_float}
 use Rattle.std.proofs.lemmas.Str.Parse.{tells_all_ascii_digits, numerals_by_value, IsNumeralModel}
 use Rattle.decimals.specs.Plain.{before_point, after_point, digits_of, some_if, with_places, is_short, plain, nearest_double, plain_of}
 use Rattle.decimals.proofs.DigitValues.{digits_append}
@@ -90,3 +90,15 @@ plain_read bs u r e t h = parsed bs r h ∙ at (plain (without_sign bs)) refl (t
     at : (o : Option (ℕ × ℕ)) → plain (without_sign bs) ≡ o → true ≡ is_some o → parse_float binary64 bs ≡ nearest_double (starts_with_minus bs) o
     at None e t = absurd (grind arith)
     at (Some (n, p)) e t = plain_parsed bs n p e
+
+-- the double of a plain text is what `parse` reads of it
+pub plain_is : (bs : List ℕ) (y : Float) → plain_of bs ≡ Some y → parse_float binary64 bs ≡ Some y
+plain_is bs y = at (plain (without_sign bs)) refl
+  where
+    at : (o : Option (ℕ × ℕ)) → plain (without_sign bs) ≡ o → nearest_double (starts_with_minus bs) o ≡ Some y → parse_float binary64 bs ≡ Some y
+    at None e h = absurd (grind arith)
+    at (Some (n, p)) e h = plain_parsed bs n p e ∙ h
+
+-- so `parse` reads a plain text
+pub plain_float : (bs : List ℕ) (y : Float) → plain_of bs ≡ Some y → is_float_text bs ≡ true
+plain_float bs y e = sym (is_some-parse_float binary64 bs) ∙ ap is_some (plain_is bs y e)

@@ -1,3 +1,4 @@
 mod Cuts
 mod DigitValues
 pub mod FloatTexts
+pub mod Quotients

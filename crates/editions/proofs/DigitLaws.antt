@@ -1,11 +1,12 @@
 use Rattle.std.proofs.Common.{◌≡◌, ℕ, zero, suc, ◌+◌, ◌*◌, ◌/◌, ◌%◌, ◌^◌, ◌<◌, ◌≤◌, List, [], ◌∷◌, ◌++◌, length, get_or, take, drop, replicate, Ok, Err, Result, sym, refl, ap, ◌∙◌, pow-suc, arith}
+use borrow.Rule.Slice.PartMut.{put_mid}
 use Rattle.refusal.specs.declared.Refusal.{Refusal}
 use Rattle.std.proofs.lemmas.List.{length-append, length-drop, drop_all}
 use Rattle.media.specs.Posts.{Written}
 use Rattle.std.specs.List.{AllByRecursion}
 use Rattle.std.proofs.lemmas.Nat.{div_below}
 use Rattle.media.specs.Runs.{run, overwrite}
-use Rattle.media.proofs.RunLaws.{run_overwrite}
+use Rattle.media.proofs.RunLaws.{run_overwrite, put_mid_overwrite}
 use Rattle.editions.specs.Numbers.{little, digits, number_at, Stored}
 
 pub length_digits : (w n : ℕ) → length (digits w n) ≡ w
@@ -92,3 +93,17 @@ little_lt (b ∷ bs) h = rw pow-suc (omega (arith, little_lt bs h.1, h.0))
 pub stored_from_written : {X : Type 0} (bs is : List ℕ) (at w n : ℕ) (r : Result X Refusal) → at + w ≤ length bs → n < 256 ^ w → Written bs at (digits w n) is r → Stored w bs at n is r
 stored_from_written bs is at w n (Ok x) h l (p, e) = (h, l, e, ap (λ bs. number_at w bs at) e ∙ little_stored bs at w n h l)
 stored_from_written bs is at w n (Err x) h l (p, q, e) = absurd (omega (arith, length_digits w n))
+
+-- what `to_le_bytes` writes of four bytes
+pub digits_4 : (n : ℕ) → (n % 256) ∷ (n / 256 % 256) ∷ (n / 65536 % 256) ∷ (n / 16777216 % 256) ∷ [] ≡ digits 4 n
+digits_4 n =
+    let a : n / 65536 ≡ n / 256 / 256 = omega arith in
+    let b : n / 16777216 ≡ n / 256 / 256 / 256 = omega arith in
+    rw (a, b)
+
+-- a number that is written through `&mut bytes[at..at + w]`
+pub stored_number : (bs : List ℕ) (at w n k : ℕ) (ys : List ℕ) → k ≡ w → at + w ≤ length bs → n < 256 ^ w → ys ≡ digits w n
+    → (at + w ≤ length bs) × (n < 256 ^ w) × (put_mid at k bs ys ≡ overwrite bs at (digits w n)) × (number_at w (put_mid at k bs ys) at ≡ n)
+stored_number bs at w n k ys q h l e =
+    let d : put_mid at k bs ys ≡ overwrite bs at (digits w n) = put_mid_overwrite at k bs ys (digits w n) e (q ∙ sym (length_digits w n)) in
+    (h, l, d, ap (λ is. number_at w is at) d ∙ little_stored bs at w n h l)

@@ -1,5 +1,5 @@
 -- Rows that were never in use stay as they were.
-use Rattle.std.proofs.Common.{◌≡◌, ℕ, ◌+◌, ◌-◌, ◌<◌, ◌≤◌, List, [], ◌∷◌, length, get_or, drop, Ok, Result, sym, ap, ◌∙◌, arith, max}
+use Rattle.std.proofs.Common.{◌≡◌, ℕ, ◌+◌, ◌-◌, ◌<◌, ◌≤◌, List, [], ◌∷◌, length, get_or, drop, Ok, Result, sym, refl, ap, ◌∙◌, arith, max}
 use Rattle.std.proofs.lemmas.List.{at_drop_more, drop-drop, length-take-le}
 use Rattle.refusal.specs.declared.Refusal.{Refusal}
 use Rattle.topology.specs.declared.map.Map.{Map}
@@ -44,6 +44,9 @@ pub record Frees (v w : World) (cs : List (Call (List Vertex))) (i : ℕ) (was i
   pub few_sides : most sides_used w (drop i cs) ≤ most sides_used v cs
   pub few_vertices : most vertices_used w (drop i cs) ≤ most vertices_used v cs
   pub free : FreeRows (most sides_used v cs) (most vertices_used v cs) was is
+
+pub frees_none : (v : World) (cs : List (Call (List Vertex))) (was : Map) → Frees v v cs 0 was was
+frees_none v cs was = record { few_sides = omega arith; few_vertices = omega arith; free = same_free was was _ _ refl }
 
 pub frees_turn : (v w w' : World) (cs : List (Call (List Vertex))) (i : ℕ) (d : Call (List Vertex)) (was mid is : Map) (a : Result Answer Refusal) → i < length cs → d ≡ get_or cs i d → w' ≡ after w d → w'.state ≡ state_of is →
     Keeps mid is a → Frees v w cs i was mid → Frees v w' cs (i + 1) was is

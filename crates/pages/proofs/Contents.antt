@@ -55,6 +55,11 @@ pub store_more : (pages : List (List ℕ)) (was ps ws : List ℕ) (n at i : ℕ)
 store_more pages was ps ws n at i below apart m g w h l e =
     content_stored pages ps n (at + i) (get_or ws i 0) below apart m g (omega arith) ∙ rw e (overwrite_more was ws at i 0 (omega arith) l)
 
+-- a buffer that agrees with a list at each place from `at` on is that run of it
+pub run_from_get_or : (is bs : List ℕ) (at n : ℕ) → length is ≡ n → at + n ≤ length bs → ((k : ℕ) → k < n → get_or is k 0 ≡ get_or bs (at + k) 0) → is ≡ run bs at n
+run_from_get_or is bs at n e h f =
+    ext_get_or 0 _ _ (e ∙ sym (length_run bs at n h)) (λ k l. let l' : k < n = omega arith in f k l' ∙ sym (get_or-take n _ k 0 l' ∙ get_or-drop at bs k 0))
+
 -- a buffer that has byte at + k at each place k is that run of what the pages hold
 pub run_from_bytes : (pages : List (List ℕ)) (ps is : List ℕ) (n at m : ℕ) → length is ≡ m → at + m ≤ 512 * n → ((k : ℕ) → k < m → get_or is k 0 ≡ byte_at pages ps (at + k)) → is ≡ run (content pages ps n) at m
 run_from_bytes pages ps is n at m e h f =

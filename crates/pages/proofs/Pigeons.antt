@@ -13,7 +13,7 @@ moved_there f n v k e = rw (eq-eqb (f k) n e)
 moved_else : (f : ℕ → ℕ) (n v k : ℕ) → (f k ≡ n → ⊥) → moved f n v k ≡ f k
 moved_else f n v k e = rw (ne_eqb (f k) n e)
 
-at_most : (m n : ℕ) (f : ℕ → ℕ) → ((k : ℕ) → k < m → f k < n) → ((a b : ℕ) → a < m → b < m → f a ≡ f b → a ≡ b) → m ≤ n
+pub at_most : (m n : ℕ) (f : ℕ → ℕ) → ((k : ℕ) → k < m → f k < n) → ((a b : ℕ) → a < m → b < m → f a ≡ f b → a ≡ b) → m ≤ n
 at_most zero n f low one = omega arith
 at_most (suc m) zero f low one = absurd (omega (arith, low 0 (omega arith)))
 at_most (suc m) (suc n) f low one =

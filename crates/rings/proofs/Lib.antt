@@ -8,9 +8,11 @@ pub mod Links
 pub mod Closed
 pub mod Split
 pub mod Rename
+pub mod Renumber
 pub mod Island
 pub mod Words
 pub mod Walks
+pub mod Undo
 pub mod Opposites
 pub mod Lows
 pub mod Exchange
@@ -21,6 +23,8 @@ pub mod Labels
 pub mod Ringwise
 pub mod Division
 pub mod TwoRings
+pub mod Join
+pub mod Dissolve
 pub mod SplitRings
 pub mod SetFree
 pub mod SameLow

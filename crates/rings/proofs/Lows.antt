@@ -1,7 +1,7 @@
 -- Where each member tells the lowest of its circle, the circles start at the members that tell themselves.
-use Rattle.std.proofs.Common.{◌≡◌, ℕ, zero, suc, ◌+◌, ◌<◌, ◌≤◌, Bool, true, false, cond, ◌&&◌, eqb, ltb, List, [], ◌∷◌, ◌++◌, length, sym, refl, ap, ◌∙◌, subst, inl, inr, arith}
+use Rattle.std.proofs.Common.{◌≡◌, ℕ, zero, suc, ◌+◌, ◌-◌, ◌<◌, ◌≤◌, Bool, true, false, cond, ◌&&◌, eqb, ltb, List, [], ◌∷◌, ◌++◌, length, get_or, sym, refl, ap, ◌∙◌, subst, inl, inr, arith}
 use Rattle.std.proofs.lemmas.Bool.{cases_eq, cases_lt, ltb-true, eqb-true, lt-ltb, le-ltb, and_parts, and_left, cond_both}
-use Rattle.std.proofs.lemmas.List.{append-nil}
+use Rattle.std.proofs.lemmas.List.{length-append, append-nil, get_or_append_left, get_or-append_right}
 use Rattle.rings.specs.Circles.{one_if, occ, occs, AllCircles, first, names, ring, rings, Lowest, Rising, starts, kept}
 use Rattle.rings.specs.Law.{Ringed, LowAlong, LowBelow, LowNames}
 use Rattle.rings.proofs.Occurs.{occ_append, one_same, one_other, one_most, below_one, one_true}
@@ -85,6 +85,27 @@ kept_up P (suc k) =
 pub starts_up : (b : ℕ) (cs : List (List ℕ)) → Rising b cs → Up b (starts cs)
 starts_up b [] r = tt
 starts_up b (c ∷ cs) r = (r.0, starts_up (suc (first c)) cs r.1)
+
+-- the number of those kept before s is the place of s
+pub kept_at : (P : ℕ → Bool) (n s : ℕ) → s < n → P s ≡ true → (get_or (kept P n) (length (kept P s)) 0 ≡ s) × (length (kept P s) < length (kept P n))
+kept_at P zero s l h = absurd (omega arith)
+kept_at P (suc k) s l h =
+    elim (cases_eq s k) [
+      | inl e ↦
+          let m : P k ≡ true = ap P (sym e) ∙ h in
+          let x : kept P (suc k) ≡ kept P k ++ (k ∷ []) = ap (λ t. kept P k ++ cond t (k ∷ []) []) m in (
+            rw (x, e) (get_or-append_right (kept P k) (k ∷ []) (length (kept P k)) (length (kept P k)) 0 refl (omega arith) ∙ z (length (kept P k))),
+            rw (x, e) (omega (arith, length-append (kept P k) (k ∷ []))),
+          )
+      | inr ne ↦
+          let r = kept_at P k s (omega arith) h in (
+            get_or_append_left (kept P k) (cond (P k) (k ∷ []) []) 0 (length (kept P s)) r.1 ∙ r.0,
+            omega (arith, r.1, length-append (kept P k) (cond (P k) (k ∷ []) [])),
+          )
+    ]
+  where
+    z : (m : ℕ) → get_or (k ∷ []) (m - m) 0 ≡ k
+    z m = let e : m - m ≡ 0 = omega arith in rw e
 
 -- ---- the lowest of each circle
 

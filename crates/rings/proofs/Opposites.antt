@@ -11,3 +11,6 @@ xor_opp a =
       | inl e ↦ ap (λ r. a / 2 * 2 + differ r 1) e ∙ omega arith
       | inr ne ↦ let e : a % 2 ≡ 1 = omega arith in ap (λ r. a / 2 * 2 + differ r 1) e ∙ omega arith
     ]
+
+pub opp_back : (a : ℕ) → opp (opp a) ≡ a
+opp_back a = elim (cases_eq (a % 2) 0) [ inl e ↦ omega arith | inr ne ↦ omega arith ]

@@ -1,6 +1,7 @@
 -- The rings by their starts, the lowest member of a ring, and a walk step by step.
-use Rattle.std.proofs.Common.{◌≡◌, ℕ, ◌<◌, ◌≤◌, true, eqb, ltb, List, [], ◌∷◌, map, sym, refl, ap, ◌∙◌, arith}
-use Rattle.rings.specs.Circles.{one_if, occs, AllCircles, ring, rings, meets, starts, kept}
+use Rattle.std.proofs.Common.{◌≡◌, ℕ, zero, suc, ◌<◌, ◌≤◌, true, eqb, ltb, List, [], ◌∷◌, map, sym, refl, ap, ◌∙◌, arith}
+use Rattle.std.proofs.lemmas.Bool.{eq-eqb, ne_eqb, cond-true, cond-false}
+use Rattle.rings.specs.Circles.{one_if, occs, AllCircles, walk, ring, rings, meets, starts, kept}
 use Rattle.rings.specs.Law.{Ringed, LowAlong, LowBelow, LowNames}
 use Rattle.rings.proofs.Ringed.{ringed_circles}
 use Rattle.rings.proofs.Listing.{ring_is}
@@ -33,3 +34,15 @@ module _ (f low : ℕ → ℕ) (n : ℕ) (r : Ringed f n) (along : LowAlong f lo
             let d = same_ring f low n (rings f n) (ringed_circles f n r) along (low s) t i j (λ _. h) in
             omega (arith, below t j),
       )
+
+-- ---- a walk, one step on
+
+pub walk_back : (f : ℕ → ℕ) (fuel s p : ℕ) → f p ≡ s → walk f fuel s p ≡ []
+walk_back f zero s p e = refl
+walk_back f (suc m) s p e = cond-true (eqb s (f p)) [] (f p ∷ walk f m s (f p)) (eq-eqb s (f p) (sym e))
+
+pub walk_on : (f : ℕ → ℕ) (fuel m s p : ℕ) → fuel ≡ suc m → (f p ≡ s → ⊥) → walk f fuel s p ≡ f p ∷ walk f m s (f p)
+walk_on f zero m s p e ne = absurd (omega arith)
+walk_on f (suc k) m s p e ne =
+    let q : k ≡ m = omega arith in
+    cond-false (eqb s (f p)) [] (f p ∷ walk f k s (f p)) (ne_eqb s (f p) (λ i. ne (sym i))) ∙ ap (λ (j : ℕ). f p ∷ walk f j s (f p)) q

@@ -26,6 +26,12 @@ abbrev pub divide_polygon : (ℕ → ℕ) → (ℕ → ℕ) → ℕ → ℕ → 
 divide_polygon f pol n p q new x =
     cond (meets (divide_next f n p q) (suc (suc n)) (suc n) x) new (put (put pol (suc n) (pol p)) n (pol p) x)
 
+-- without n and suc n: p, which came before n, leads to what came after suc n, and q, which came before suc n, to
+-- what came after n; where one of the two was alone, the other is just left out
+abbrev pub dissolve_next : (ℕ → ℕ) → ℕ → ℕ → ℕ → ℕ → ℕ
+dissolve_next f n p q =
+    put (put f p (cond (f (suc n) == suc n) (f n) (f (suc n)))) q (cond (f n == n) (f (suc n)) (f n))
+
 -- n and suc n, each a ring alone, at the node new
 abbrev pub island_next : (ℕ → ℕ) → ℕ → ℕ → ℕ
 island_next f n = put (put f n n) (suc n) (suc n)

@@ -32,7 +32,7 @@ use Rattle.topology.proofs.DivideLaw.{linked_long, linked_rings, next', long', r
 held_rings : (w t : Table Side) (xs : List Side) → Holds w t xs → Ringed (next_of xs) (length xs) → InRings (take t.used t.rows.now) t.used
 held_rings w t xs h r = subst (λ (k : ℕ). Ringed (next_of (take t.used t.rows.now)) k) (sym (held_used w t xs h)) (subst (λ (ys : List Side). Ringed (next_of ys) (length xs)) (sym h.rows) r)
 
-told_rings : (xs : List Side) (s p : ℕ) → Ringed (next_of xs) (length xs) → Ringed (next_of (ring_told xs s p)) (length (ring_told xs s p))
+pub told_rings : (xs : List Side) (s p : ℕ) → Ringed (next_of xs) (length xs) → Ringed (next_of (ring_told xs s p)) (length (ring_told xs s p))
 told_rings xs s p r =
     subst (λ (k : ℕ). Ringed (next_of (ring_told xs s p)) k) (sym (told_long xs s p)) (subst (λ (h : ℕ → ℕ). Ringed h (length xs)) (sym (told_else xs s p (λ r. r.next) (λ r. refl))) r)
 

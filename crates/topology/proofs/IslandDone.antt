@@ -17,12 +17,12 @@ use Rattle.topology.proofs.Assembling.{lawful_at, lawful_of, state_from, room_to
 use Rattle.topology.proofs.IslandLaw.{island_lawful, island_rings, island_ring, island_turn, unturned_alone, turned_alone, island_own_turn, unturned_polygon, turned_polygon, old_polygon}
 
 -- the rows of an island, as the code makes them
-unturned_row : (m : Map) → unturned m.sides.used m.nodes m.vertices.used m.polygons ≡ unturned (length (state_of m).sides) m.nodes (length (state_of m).vertices) m.polygons
+pub unturned_row : (m : Map) → unturned m.sides.used m.nodes m.vertices.used m.polygons ≡ unturned (length (state_of m).sides) m.nodes (length (state_of m).vertices) m.polygons
 unturned_row m =
     ap (λ (k : ℕ). unturned k m.nodes m.vertices.used m.polygons) (sym (length-take-le m.sides.used m.sides.rows.now m.sides.fits))
     ∙ ap (λ (k : ℕ). unturned (length (state_of m).sides) m.nodes k m.polygons) (sym (length-take-le m.vertices.used m.vertices.rows.now m.vertices.fits))
 
-turned_row : (m : Map) (k p : ℕ) → turned m.sides.used m.nodes (m.vertices.used + k) p ≡ turned (length (state_of m).sides) m.nodes (length (state_of m).vertices + k) p
+pub turned_row : (m : Map) (k p : ℕ) → turned m.sides.used m.nodes (m.vertices.used + k) p ≡ turned (length (state_of m).sides) m.nodes (length (state_of m).vertices + k) p
 turned_row m k p =
     ap (λ (j : ℕ). turned j m.nodes (m.vertices.used + k) p) (sym (length-take-le m.sides.used m.sides.rows.now m.sides.fits))
     ∙ ap (λ (j : ℕ). turned (length (state_of m).sides) m.nodes (j + k) p) (sym (length-take-le m.vertices.used m.vertices.rows.now m.vertices.fits))

@@ -12,6 +12,7 @@ pub mod DivideLaw
 pub mod Linking
 pub mod DivideDone
 pub mod Assembling
+pub mod Goods
 pub mod IslandDone
 pub mod Turning
 pub mod Alone

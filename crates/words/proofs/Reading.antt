@@ -1,16 +1,17 @@
 -- What std's `parse` answers, in the words of the specs.
-use Rattle.std.proofs.Common.{◌≡◌, ℕ, ◌^◌, ◌<◌, true, ◌&&◌, ltb, List, [], ◌∷◌, length, Some, None, Ok, Err, IsUtf8, Option, Result, sym, refl, ap, ◌∙◌, append-nil, arith}
+use Rattle.std.proofs.Common.{◌≡◌, ℕ, ◌^◌, ◌<◌, true, ◌&&◌, ltb, List, [], ◌∷◌, length, is_some, Some, None, Ok, Err, IsUtf8, Option, Result, sym, refl, ap, ◌∙◌, subst, append-nil, arith}
 use lib.Utf8.{scalar, encode, encodes, scalars}
 use lib.Ieee.{Float, binary64}
 use Rattle.std.specs.Result.{result_ok}
-use Rattle.std.specs.Float.Parse.{ParsesFloat, IsParseFloatResult, without_sign}
+use Rattle.std.specs.Float.Parse.{ParsesFloat, IsParseFloatResult, without_sign, is_float_text}
 use Rattle.std.specs.Str.Parse.{IsNumeral, without_leading_plus, digits_value, ParsesUnsigned, ParsesChar, starts_with_minus}
 use Rattle.std.specs.Str.{all_ascii_digits, chars}
 use Rattle.std.proofs.lemmas.Str.Parse.{IsNumeralModel, numerals_by_value, tells_all_ascii_digits}
 use Rattle.std.proofs.lemmas.Bool.{and_parts, and_from, ltb-true, lt-ltb, cond_both}
+use Rattle.std.proofs.lemmas.Float.Parse.{is_some-parse_float}
 use Rattle.std.proofs.lemmas.Str.{chars_from_encodes, encodes-chars, scalars-chars}
-use Rattle.decimals.specs.Plain.{plain, nearest_double}
-use Rattle.decimals.proofs.FloatTexts.{parsed, plain_parsed}
+use Rattle.decimals.specs.Plain.{plain, nearest_double, plain_of}
+use Rattle.decimals.proofs.FloatTexts.{parsed, plain_parsed, plain_is}
 use Rattle.words.specs.Words.{numeral, whole_of, only, character_of, Said, Parsed, Decimal}
 
 told : IsNumeralModel (λ ds. all_ascii_digits ds ≡ true) (digits_value 10)
@@ -45,7 +46,7 @@ character_read bs (Err e) u h = none_only bs (chars bs) (encodes-chars bs u) (sc
 ok_same : {E : Type 0} (x y : Float) → (let r : Result Float E = Ok x in r ≡ Ok y) → x ≡ y
 ok_same x y e = grind arith
 
-decimal_read : {E : Type 0} (bs : List ℕ) (r : Result Float E) → ParsesFloat binary64 64 bs r → Parsed bs (result_ok r)
+pub decimal_read : {E : Type 0} (bs : List ℕ) (r : Result Float E) → ParsesFloat binary64 64 bs r → Parsed bs (result_ok r)
 decimal_read bs (Ok x) h = (sym h.0, λ e. let p = numeral_of (without_leading_plus bs) e in ok_same x _ (h.1 p.0 p.1))
 decimal_read bs (Err e) h = sym h.0
 
@@ -56,3 +57,11 @@ decimal_said bs r h i = record { rounded = parsed bs r i; said = at (plain (with
     at : (o : Option (ℕ × ℕ)) → plain (without_sign bs) ≡ o → Said bs (nearest_double (starts_with_minus bs) o) (result_ok r)
     at None e = decimal_read bs r h
     at (Some (n, p)) e = parsed bs r i ∙ plain_parsed bs n p e
+
+-- exactly the text of a decimal number says one
+pub decimal_text : (bs : List ℕ) (r : Option Float) → Decimal bs r → is_some r ≡ is_float_text bs
+decimal_text bs r d = ap is_some d.rounded ∙ is_some-parse_float binary64 bs
+
+-- the double nearest to a plain number is the one that its text says
+pub plain_said : (bs : List ℕ) (x : Float) → Some x ≡ plain_of bs → Decimal bs (Some x)
+plain_said bs x e = record { rounded = sym (plain_is bs x (sym e)); said = subst (λ (o : Option Float). Said bs o (Some x)) e refl }
