@@ -1,22 +1,30 @@
-use Rattle.std.proofs.Common.{length, ap, sym, ◌∙◌, rules, tests, slice_get}
-use Rattle.std.proofs.lemmas.Iterator.{YieldsList-from_map}
-use Rattle.std.proofs.lemmas.Iterator.Consumers.{YieldsList-from_filter, YieldsList-at, nth_from_yields_List}
-use Rattle.std.proofs.lemmas.Iterator.Adapters.{option_map_id}
-use Rattle.std.proofs.lemmas.Option.{slice_get-map}
+use Rattle.std.proofs.Common.{◌≡◌, ℕ, ◌≤◌, Some, length, sym, ap, ◌∙◌, subst, arith}
+use Rattle.std.specs.List.{slice_get}
+use Rattle.std.specs.Option.{option_map}
+use Rattle.std.proofs.lemmas.Bool.{eq-eqb}
+use Rattle.std.proofs.lemmas.Option.{slice_get-get_or, slice_get_past}
 use Rattle.rings.specs.Circles.{kept}
-use Rattle.topology.specs.Rows.{tells}
-use Rattle.topology.proofs.Enumerated.{numbered, is_start, told, named, rings_listed}
+use Rattle.rings.proofs.Lows.{kept_at}
+use Rattle.topology.specs.Rows.{polygon_of, tells}
 use Rattle.topology.proofs.walks.find_ring.Goals as goal
+
+pub returns-then-n-k : goal.returns-then-n-k
+returns-then-n-k c =
+    let us = c.args.sides.now in
+    let n = length us in
+    let s = c.loop-at.at in
+    let P = tells us in
+    let (a, b) = kept_at P n s c.loop-at-test.true (eq-eqb _ _ c.if-side-at.true) in
+    let here : c.args.k ≡ length (kept P s) = sym c.if-n-k.true ∙ c.loop-at.invariant.2 in
+    let found : slice_get (kept P n) c.args.k ≡ Some s = ap (slice_get (kept P n)) here ∙ (slice_get-get_or (kept P n) (length (kept P s)) 0 b ∙ ap Some a) in
+    sym (ap (option_map (λ (t : ℕ). (polygon_of us t, t))) found)
 
 pub returns : goal.returns
 returns c =
     let us = c.args.sides.now in
-    sym (option_map_id c.nth.result)
-    ∙ (nth_from_yields_List c.nth.result c.nth.new.self c.args.k c.nth.ensures.ran
-    (YieldsList-from_map _ told
-    (YieldsList-at c.map.ensures.source
-    (YieldsList-from_filter _ is_start
-    (YieldsList-at c.filter.ensures.source (numbered us c.iter.ensures.rest c.enumerate.ensures.source c.enumerate.ensures.count))
-    c.filter.ensures.closure (λ x r q k. search (rules, tests))))
-    c.map.ensures.closure (λ x r q k. search (rules, tests)))
-    ∙ (ap (λ xs. slice_get xs c.args.k) (rings_listed us) ∙ slice_get-map (named us) (kept (tells us) (length us)) c.args.k))
+    let n = length us in
+    let P = tells us in
+    let all : c.loop-at.at ≡ n = omega (arith, c.loop-at-test.false, c.loop-at.auto.at-end) in
+    let few : length (kept P n) ≤ c.args.k =
+    subst (λ (m : ℕ). length (kept P m) ≤ c.args.k) all (subst (λ (m : ℕ). m ≤ c.args.k) c.loop-at.invariant.2 c.loop-at.invariant.1) in
+    sym (ap (option_map (λ (t : ℕ). (polygon_of us t, t))) (slice_get_past (kept P n) c.args.k few))
