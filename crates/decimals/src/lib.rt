@@ -63,6 +63,7 @@ fn is_plain(text: &str) -> bool
 
 /// The double nearest to the number that a plain text writes: a sign or none, digits with at most one point, at most 15 of them after it,
 /// and without the point a number below 2 ^ 53. Of any other text, none.
+#[tactic(auto, using(crate::proofs::FloatTexts::plain_read))]
 pub fn plain_decimal(text: &str) -> Option<f64>
     ensures { result ≡ plain_of text.now }
 {
